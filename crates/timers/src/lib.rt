@@ -1,0 +1,24 @@
+// The two kinds of counter that a switch has. Both count down and know no date: a timer stands still at 0, and a metronome
+// beats at the tick that finds it at 0 and starts over.
+ghost use mathlib.Core.Path.{_≡_};
+ghost use Rattle.timers.specs.Timers.{less, turned};
+
+// A timer one tick later.
+pub fn run(left: u16) -> u16
+    ensures { λ r. ⌜ r ≡ less left ⌝ }
+{
+    if left == 0 {
+        return 0;
+    }
+    left - 1
+}
+
+// A metronome one tick later.
+pub fn turn(period: u16, left: u16) -> u16
+    ensures { λ r. ⌜ r ≡ turned period left ⌝ }
+{
+    if left == 0 {
+        return run(period);
+    }
+    run(left)
+}
