@@ -1,0 +1,199 @@
+-- The laws of the packet: when each number is given, and what is known of a packet that is read or written.
+use Prim.Native.Nat.{ℕ, _+_, _-_, _%_, _≤_, _<_}
+use native.Mathlib.Omega.{arith}
+use mathlib.Core.Bool.{true, false, not, false≢true, and-eq-true-iff}
+use mathlib.Core.List.{List, [], _∷_, _++_}
+use mathlib.Core.Path.{_≡_, refl, sym, ap, _∙_, subst}
+use borrow.Author.Tests.{ltb-true, ltb-false, leb-true, eqb-true, eqb-false, not-true, not-false}
+use lib.Dec.{ltb, eqb}
+use lib.ListN.{length, getD, take, drop, length-append, length-take, length-drop}
+use types.Run.{OneOf, miss}
+use denote.Enum.Declared.{tagOf}
+use Rattle.words.specs.Words.{Bytes}
+use Rattle.words.proofs.Laws.{tests, cases, one-outcome}
+use Rattle.packet.specs.declared.Header.{Header}
+use Rattle.packet.specs.declared.Frame.{Frame}
+use Rattle.packet.specs.declared.Frame.the-variants.{Read, Short, Long, Length, Sum, Reserved}
+use Rattle.packet.specs.declared.Written.{Written}
+use Rattle.packet.specs.declared.Written.the-variants as written
+use Rattle.packet.specs.Layout.{headerIn, wholeIn, reservedIn, headed, total, packed}
+use Rattle.packet.specs.Reading.{readOf, numberOf, messageOf}
+use Rattle.packet.specs.Writing.{inRange, writtenOf, laid, Wrote}
+use Rattle.packet.specs.Promises.{Sized, Counted, Summed, Given, Sound, GivenExactly, Ranges, GivenWritten, WrittenExactly, OneOutcome}
+use Rattle.packet.proofs.Frame.{the-type}
+
+-- What the reader answers meets its row of the table.
+pub given : (p : List ℕ) → Given (readOf p) p
+unfolding readOf
+given p =
+    let row : Frame → Type 0 = λ f. Given f p in
+    cases row (ltb (length p) 7) (ltb-true _ _)
+    (λ a. cases row (ltb 24 (length p)) (ltb-true _ _)
+    (λ b. let sized : Sized p = (ltb-false _ _ a, ltb-false _ _ b) in
+    cases row (not (eqb (wholeIn (getD p 0 0)) (length p))) (λ c. (sized, eqb-false _ _ (not-true _ c)))
+    (λ c. let counted : Counted p = (sized, eqb-true _ _ (not-false _ c)) in
+    cases row (not (eqb (total p % 256) 0)) (λ d. (counted, eqb-false _ _ (not-true _ d)))
+    (λ d. let summed : Summed p = (counted, eqb-true _ _ (not-false _ d)) in
+    cases row (not (eqb (reservedIn (getD p 1 0)) 0)) (λ e. (summed, eqb-false _ _ (not-true _ e)))
+    (λ e. record {
+      least = sized .0;
+      most = sized .1;
+      whole = counted .1;
+      sum = summed .1;
+      reserved = eqb-true _ _ (not-false _ e);
+      header = refl;
+    })))))
+
+-- A row of the table whose condition holds is what the reader answers.
+pub only : (f : Frame) (p : List ℕ) → Given f p → readOf p ≡ f
+unfolding readOf
+only Short p g = search tests
+only Long p g = let least : 7 ≤ length p = omega arith in search tests
+only Length p g = search tests
+only Sum p g = search tests
+only Reserved p g = search tests
+only (Read h) p g = rw (g .header) (search tests)
+
+-- Each of the reader's numbers is given exactly when its row of the table says.
+pub exactly : GivenExactly
+exactly f p = (λ e. subst (λ (f : Frame). Given f p) e (given p), only f p)
+
+-- A refusal's number is 4 to 8.
+pub refusal-number : (f : Frame) → (numberOf f ≡ 0 → ⊥) → (4 ≤ numberOf f) × (numberOf f ≤ 8)
+refusal-number (Read h) n = absurd (n refl)
+refusal-number Short n = omega arith
+refusal-number Long n = omega arith
+refusal-number Length n = omega arith
+refusal-number Sum n = omega arith
+refusal-number Reserved n = omega arith
+
+-- A frame that `let Frame::Read(..) = frame else` leaves is a refusal.
+pub not-read : (f : Frame) → OneOf (1 ∷ 2 ∷ 3 ∷ 4 ∷ 5 ∷ []) (tagOf the-type f) → numberOf f ≡ 0 → ⊥
+not-read (Read h) k z = miss (1 ∷ 2 ∷ 3 ∷ 4 ∷ 5 ∷ []) 0 tt k
+not-read Short k z = omega arith
+not-read Long k z = omega arith
+not-read Length k z = omega arith
+not-read Sum k z = omega arith
+not-read Reserved k z = omega arith
+
+-- A packet that is read passes every check, and the header is the one in its bytes.
+pub sound : (p : List ℕ) (h : Header) → readOf p ≡ Read h → Sound p h
+sound p h = exactly (Read h) p .0
+
+-- The message of a packet that is read stands from byte 5 up to the checksum.
+pub message-is : (p : List ℕ) (h : Header) → readOf p ≡ Read h → messageOf p ≡ take (length p - 6) (drop 5 p)
+unfolding messageOf
+message-is p h e = rw e
+
+-- It is six bytes shorter than the packet.
+pub message-length : (p : List ℕ) (h : Header) → readOf p ≡ Read h → length (messageOf p) + 6 ≡ length p
+message-length p h e =
+    let s = sound p h e in
+    rw (message-is p h e, length-take, length-drop) (omega arith)
+
+-- The message of a refused packet is empty.
+pub message-refused : (p : List ℕ) → (numberOf (readOf p) ≡ 0 → ⊥) → messageOf p ≡ []
+unfolding messageOf
+message-refused p refused = search tests
+
+-- The writer's ranges, each by itself.
+pub ranges : (h : Header) (size : ℕ) → inRange h size ≡ true → Ranges h size
+unfolding inRange
+ranges h size e =
+    let a = and-eq-true-iff _ _ .0 e in
+    let b = and-eq-true-iff _ _ .0 (a .1) in
+    let c = and-eq-true-iff _ _ .0 (b .1) in
+    let d = and-eq-true-iff _ _ .0 (c .1) in
+    let l = and-eq-true-iff _ _ .0 (d .1) in
+    record {
+      repeat = leb-true _ _ (a .0);
+      request = leb-true _ _ (b .0);
+      count = leb-true _ _ (c .0);
+      sequence = leb-true _ _ (d .0);
+      least = leb-true _ _ (l .0);
+      most = leb-true _ _ (l .1);
+    }
+
+-- Fields in range and a message of 1 to 18 bytes pass the writer's first check.
+pub in-range : (h : Header) (size : ℕ) → Ranges h size → inRange h size ≡ true
+unfolding inRange
+in-range h size r = search tests
+
+-- What the writer answers meets its row of the table.
+pub written-given : (h : Header) (size room : ℕ) → GivenWritten (writtenOf h size room) h size room
+unfolding writtenOf
+written-given h size room =
+    let row : Written → Type 0 = λ w. GivenWritten w h size room in
+    cases row (not (inRange h size)) (λ e r. false≢true (sym (not-true _ e) ∙ in-range h size r))
+    (λ fit. cases row (ltb room (size + 6)) (λ e. (ranges h size (not-false _ fit), ltb-true _ _ e))
+    (λ e. (ranges h size (not-false _ fit), (ltb-false _ _ e, refl))))
+
+-- A row of the table whose condition holds is what the writer answers.
+pub written-only : (w : Written) (h : Header) (size room : ℕ) → GivenWritten w h size room → writtenOf h size room ≡ w
+unfolding writtenOf
+written-only written.Field h size room g =
+    cases (λ (w : Written). w ≡ written.Field) (not (inRange h size)) (λ e. refl) (λ e. absurd (g (ranges h size (not-false _ e))))
+written-only written.Short h size room g = rw (in-range h size (g .0)) (search tests)
+written-only (written.Packet n) h size room g = rw (in-range h size (g .0), g .1 .1) (search tests)
+
+-- Each of the writer's numbers is given exactly when its row of the table says.
+pub exactly-written : WrittenExactly
+exactly-written w h size room =
+    (λ e. subst (λ (w : Written). GivenWritten w h size room) e (written-given h size room), written-only w h size room)
+
+-- No two outcomes: the writer's promise fixes the answer and every byte of the buffer.
+pub one-written : OneOutcome
+one-written h m before after after′ w w′ x y =
+    let same : w ≡ w′ = one-outcome w w′ (x .answered) (y .answered) in
+    (same, x .bytes ∙ rw same (sym (y .bytes)))
+
+-- A written packet is its message and six bytes long.
+pub packed-length : (h : Header) (m : List ℕ) → length (packed h m) ≡ length m + 6
+unfolding packed headed
+packed-length h m = simp length-append (omega arith)
+
+-- What the writer's promise says where it answers a length: the ranges, the length, and that it is 7 to 24 and within the buffer.
+pub written-length : (h : Header) (m before after : List ℕ) (n : ℕ) → Wrote h m before (written.Packet n) after
+    → Ranges h (length m) × ((n ≡ length m + 6) × ((7 ≤ n) × ((n ≤ 24) × (n ≤ length before))))
+written-length h m before after n w =
+    let g = exactly-written (written.Packet n) h (length m) (length before) .0 (sym (w .answered)) in
+    let r = g .0 in
+    (r, (g .1 .1, (omega arith, (omega arith, omega arith))))
+
+-- A header in range, a message of 1 to 18 bytes and room for them: the writer answers the length and lays the packet.
+pub written-whole : (h : Header) (m before after : List ℕ) (w : Written) → Ranges h (length m) → length m + 6 ≤ length before
+    → Wrote h m before w after → (w ≡ written.Packet (length m + 6)) × (after ≡ packed h m ++ drop (length m + 6) before)
+unfolding laid
+written-whole h m before after w r room x =
+    let whole : w ≡ written.Packet (length m + 6) =
+    x .answered ∙ written-only (written.Packet (length m + 6)) h (length m) (length before) (r, (room, refl)) in
+    (whole, x .bytes ∙ rw whole)
+
+-- The writer keeps the buffer's length.
+pub wrote-length : (h : Header) (m before after : List ℕ) (w : Written) → Wrote h m before w after → length after ≡ length before
+unfolding laid
+wrote-length h m before after (written.Packet n) w =
+    let l = written-length h m before after n w in
+    rw (w .bytes, length-append, packed-length h m, length-drop) (omega arith)
+wrote-length h m before after written.Field w = ap length (w .bytes)
+wrote-length h m before after written.Short w = ap length (w .bytes)
+
+-- A header that is read is in range, and its message is 1 to 18 bytes long.
+pub read-ranges : (p : List ℕ) (h : Header) → readOf p ≡ Read h → Ranges h (length (messageOf p))
+unfolding headerIn
+read-ranges p h e =
+    let s = sound p h e in
+    let size = message-length p h e in
+    record {
+      repeat = rw (s .header) (omega arith);
+      request = rw (s .header) (omega arith);
+      count = rw (s .header) (omega arith);
+      sequence = rw (s .header) (omega arith);
+      least = omega arith;
+      most = omega arith;
+    }
+
+-- The network, destination and source of a header that is read are bytes.
+pub read-bytes : (p : List ℕ) (h : Header) → Bytes p → readOf p ≡ Read h → (h .network < 256) × ((h .destination < 256) × (h .source < 256))
+unfolding headerIn
+read-bytes p h bytes e = let s = sound p h e in rw (s .header) (bytes 2, (bytes 3, bytes 4))

@@ -1,0 +1,120 @@
+-- What is promised of reading and writing beyond the single functions: when each number is given, that reading and writing are
+-- inverses of each other, and the worked packets.
+use Prim.Native.Nat.{ℕ, _+_, _%_, _≤_, _<_}
+use mathlib.Core.Bool.{false}
+use mathlib.Core.List.{List, [], _∷_}
+use mathlib.Core.Logic.{_↔_}
+use mathlib.Core.Path.{_≡_}
+use lib.ListN.{length, getD, take, drop}
+use Rattle.words.specs.Words.{Bytes}
+use Rattle.packet.specs.declared.Header.{Header}
+use Rattle.packet.specs.declared.Frame.{Frame}
+use Rattle.packet.specs.declared.Frame.the-variants.{Read, Short, Long, Length, Sum, Reserved}
+use Rattle.packet.specs.declared.Written.{Written}
+use Rattle.packet.specs.declared.Written.the-variants as written
+use Rattle.packet.specs.Layout.{wholeIn, reservedIn, headerIn, total, packed}
+use Rattle.packet.specs.Reading.{readOf, numberOf, messageOf}
+use Rattle.packet.specs.Writing.{writtenOf, Wrote}
+
+-- passes 4 and 5
+abbrev pub Sized : List ℕ → Type 0
+Sized p = (7 ≤ length p) × (length p ≤ 24)
+
+-- passes 4 to 6
+abbrev pub Counted : List ℕ → Type 0
+Counted p = Sized p × (wholeIn (getD p 0 0) ≡ length p)
+
+-- passes 4 to 7
+abbrev pub Summed : List ℕ → Type 0
+Summed p = Counted p × (total p % 256 ≡ 0)
+
+-- A packet that passes 4 to 8, and the header that it has.
+pub record Sound (p : List ℕ) (h : Header) : Type 0 where
+  pub least : 7 ≤ length p
+  pub most : length p ≤ 24
+  pub whole : wholeIn (getD p 0 0) ≡ length p
+  pub sum : total p % 256 ≡ 0
+  pub reserved : reservedIn (getD p 1 0) ≡ 0
+  pub header : h ≡ headerIn (getD p 0 0) (getD p 1 0) (getD p 2 0) (getD p 3 0) (getD p 4 0)
+
+-- the reader's rows of the table: the row's condition, and none of an earlier row
+abbrev pub Given : Frame → List ℕ → Type 0
+Given Short p = length p < 7
+Given Long p = 24 < length p
+Given Length p = Sized p × (wholeIn (getD p 0 0) ≡ length p → ⊥)
+Given Sum p = Counted p × (total p % 256 ≡ 0 → ⊥)
+Given Reserved p = Summed p × (reservedIn (getD p 1 0) ≡ 0 → ⊥)
+Given (Read h) p = Sound p h
+
+-- "Given exactly when", for the reader.
+abbrev pub GivenExactly : Type 0
+GivenExactly = (f : Frame) (p : List ℕ) → (readOf p ≡ f) ↔ Given f p
+
+-- A header whose fields are in range, and a message of 1 to 18 bytes.
+pub record Ranges (h : Header) (size : ℕ) : Type 0 where
+  pub repeat : h .repeat ≤ 3
+  pub request : h .request ≤ 7
+  pub count : h .count ≤ 3
+  pub sequence : h .sequence ≤ 3
+  pub least : 1 ≤ size
+  pub most : size ≤ 18
+
+-- the writer's rows, for a message of size bytes and a buffer of room bytes: 15, then 2
+abbrev pub GivenWritten : Written → Header → ℕ → ℕ → Type 0
+GivenWritten written.Field h size room = Ranges h size → ⊥
+GivenWritten written.Short h size room = Ranges h size × (room < size + 6)
+GivenWritten (written.Packet n) h size room = Ranges h size × ((size + 6 ≤ room) × (n ≡ size + 6))
+
+-- "Given exactly when", for the writer.
+abbrev pub WrittenExactly : Type 0
+WrittenExactly = (w : Written) (h : Header) (size room : ℕ) → (writtenOf h size room ≡ w) ↔ GivenWritten w h size room
+
+-- No two outcomes: the writer's promise fixes the answer and every byte of the buffer.
+abbrev pub OneOutcome : Type 0
+OneOutcome =
+    (h : Header) (message before after after′ : List ℕ) (w w′ : Written)
+    → Wrote h message before w after → Wrote h message before w′ after′ → (w ≡ w′) × (after ≡ after′)
+
+-- Reading what was written gives back header and message.
+abbrev pub ReadsBack : Type 0
+ReadsBack =
+    (h : Header) (message : List ℕ) → Ranges h (length message)
+    → (readOf (packed h message) ≡ Read h) × (messageOf (packed h message) ≡ message)
+
+-- Writing what was read gives back the same bytes.
+abbrev pub WritesBack : Type 0
+WritesBack = (p : List ℕ) (h : Header) → Bytes p → readOf p ≡ Read h → packed h (messageOf p) ≡ p
+
+-- The same of the caller's buffer: its front reads as what was written, and the bytes behind it are kept.
+abbrev pub ReadsBackLent : Type 0
+ReadsBackLent =
+    (h : Header) (message before after : List ℕ) (n : ℕ) → Wrote h message before (written.Packet n) after
+    → (readOf (take n after) ≡ Read h) × ((messageOf (take n after) ≡ message) × (drop n after ≡ drop n before))
+
+-- A packet that was read, written into a buffer with room for it, stands at its front again.
+abbrev pub WritesBackLent : Type 0
+WritesBackLent =
+    (p : List ℕ) (h : Header) (before after : List ℕ) (answer : Written)
+    → Bytes p → readOf p ≡ Read h → length p ≤ length before → Wrote h (messageOf p) before answer after
+    → (answer ≡ written.Packet (length p)) × ((take (length p) after ≡ p) × (drop (length p) after ≡ drop (length p) before))
+
+-- a direct packet's header with repeat, request, count and sequence bits 0
+abbrev pub direct : ℕ → ℕ → ℕ → Header
+direct network destination source =
+    record {
+      link = false;
+      repeat = 0;
+      request = 0;
+      count = 0;
+      sequence = 0;
+      network = network;
+      destination = destination;
+      source = source;
+    }
+
+-- "(a) 07 00 01 05 09 30 BA is answered by 08 00 01 09 05 86 28 3B." "(e) last byte of (a) BB: 7."
+pub record Cases : Type 0 where
+  pub asked : readOf (0x07 ∷ 0x00 ∷ 0x01 ∷ 0x05 ∷ 0x09 ∷ 0x30 ∷ 0xBA ∷ []) ≡ Read (direct 1 5 9)
+  pub message : messageOf (0x07 ∷ 0x00 ∷ 0x01 ∷ 0x05 ∷ 0x09 ∷ 0x30 ∷ 0xBA ∷ []) ≡ 0x30 ∷ []
+  pub answer : packed (direct 1 9 5) (0x86 ∷ 0x28 ∷ []) ≡ 0x08 ∷ 0x00 ∷ 0x01 ∷ 0x09 ∷ 0x05 ∷ 0x86 ∷ 0x28 ∷ 0x3B ∷ []
+  pub damaged : numberOf (readOf (0x07 ∷ 0x00 ∷ 0x01 ∷ 0x05 ∷ 0x09 ∷ 0x30 ∷ 0xBB ∷ [])) ≡ 7
