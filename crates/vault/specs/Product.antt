@@ -1,0 +1,87 @@
+-- A product: any switch that keeps its password apart, and what it must see to so that the password stays secret.
+use mathlib.Core.Bool.{true, false}
+use mathlib.Core.List.{List}
+use mathlib.Core.Path.{_≡_}
+use Prim.Native.Nat.{ℕ}
+use Rattle.vault.specs.Job.{Answered, Byte, Job, Switch, compare, done, guessed, kept, put, reveal, settled, switch}
+use Rattle.vault.specs.Machine.{Machine, Throughout, gathered, several}
+use Rattle.vault.specs.Vault.{inSetup}
+use Rattle.vault.specs.declared.Mode.{Mode}
+use Rattle.vault.specs.declared.Password.{Password}
+
+-- What an event asks for is said without the password.
+pub record Product : Type 1 where
+  pub Plain : Type 0
+  pub Event : Type 0
+  pub Shown : Type 0
+  pub mode : Plain → Mode
+  pub job : Plain → Event → Job Plain Shown
+
+-- The answer to an event, and the switch after it.
+unfoldable pub respond : (P : Product) → Switch (P .Plain) → P .Event → Answered (P .Plain) (P .Shown)
+respond P s e = settled (s .password) (P .job (s .plain) e)
+
+-- The product as a machine: its states are switches.
+abbrev pub machine : Product → Machine
+machine P = record {
+  State = Switch (P .Plain);
+  Event = P .Event;
+  Shown = P .Shown;
+  shown = λ s e. respond P s e .shown;
+  next = λ s e. respond P s e .next;
+}
+
+-- Both bytes are kept, or both are put.
+abbrev pub Whole : Byte → Byte → Type 0
+Whole kept kept = Unit {0}
+Whole kept (put b) = ⊥
+Whole (put a) kept = ⊥
+Whole (put a) (put b) = Unit {0}
+
+-- What a product must see to, job by job: outside Setup the password is kept or put as a whole, never byte by byte;
+-- a right guess leaves the switch in Setup; only in Setup is the password revealed.
+abbrev pub Proper : (P : Product) → P .Plain → Job (P .Plain) (P .Shown) → Type 0
+Proper P p (done o c) = inSetup (P .mode p) ≡ false → Whole (c .first) (c .second)
+Proper P p (compare guess right wrong) = inSetup (P .mode (right .next)) ≡ true
+Proper P p (reveal show next) = inSetup (P .mode p) ≡ true
+
+-- The product sees to it in every state, at every event.
+abbrev pub Careful : Product → Type 0
+Careful P = (p : P .Plain) (e : P .Event) → Proper P p (P .job p e)
+
+-- One switch, or all those on one main: whether it is outside Setup, when two of them are alike in all but the password,
+-- which guesses an event compares, and the same with another password given to it.
+pub record Site : Type 1 where
+  pub machine : Machine
+  pub Outside : machine .State → Type 0
+  pub Alike : machine .State → machine .State → Type 0
+  pub guessed : machine .State → machine .Event → List Password
+  pub given : Password → machine .State → machine .State
+
+-- One switch of the product.
+abbrev pub alone : Product → Site
+alone P = record {
+  machine = machine P;
+  Outside = λ s. inSetup (P .mode (s .plain)) ≡ false;
+  Alike = λ s t. s .plain ≡ t .plain;
+  guessed = λ s e. guessed (P .job (s .plain) e);
+  given = λ w s. switch (s .plain) w;
+}
+
+-- Any number of them on one main; a password is given to all.
+abbrev pub flats : Site → Site
+flats S = record {
+  machine = several (S .machine);
+  Outside = λ s. (i : ℕ) → S .Outside (s i);
+  Alike = λ s t. (i : ℕ) → S .Alike (s i) (t i);
+  guessed = λ s e. S .guessed (s (e .which)) (e .event);
+  given = λ w s i. S .given w (s i);
+}
+
+-- No event of the list puts the site into Setup: what counts is the mode after the event.
+abbrev pub StaysOut : (S : Site) → S .machine .State → List (S .machine .Event) → Type 0
+StaysOut S s es = Throughout (S .machine) (λ t e. S .Outside (S .machine .next t e)) s es
+
+-- The guesses compared in the run, in order.
+abbrev pub guesses : (S : Site) → S .machine .State → List (S .machine .Event) → List Password
+guesses S s es = gathered (S .machine) (S .guessed) s es

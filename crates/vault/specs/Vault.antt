@@ -1,0 +1,19 @@
+-- The password and the guesses at it.
+use mathlib.Core.Bool.{Bool, true, false, _&&_}
+use Prim.Native.Nat.{ℕ}
+use lib.Dec.{eqb}
+use Rattle.vault.specs.declared.Mode.{Mode}
+use Rattle.vault.specs.declared.Mode.the-variants.{Normal, Setup, Factory}
+use Rattle.vault.specs.declared.Password.{Password}
+
+abbrev pub password : ℕ → ℕ → Password
+password first second = record { 0 = first; 1 = second }
+
+-- "The guess's first byte is compared with 0x02 and its second with 0x03, both always."
+unfoldable pub matches : Password → Password → Bool
+matches w guess = eqb (w .0) (guess .0) && eqb (w .1) (guess .1)
+
+unfoldable pub inSetup : Mode → Bool
+inSetup Normal = false
+inSetup Setup = true
+inSetup Factory = false
