@@ -10,14 +10,14 @@ use Rattle.words.specs.Words.{if_then_else_}
 use Rattle.words.proofs.Laws.{both, cases, two-ways, three-ways}
 use Rattle.timers.specs.Timers.{less, beats, turned, turnedBy, beatsBy}
 use Rattle.timers.proofs.Laws.{turned-none, turned-more, beats-none, beats-more, beats-whole}
-use Rattle.units.specs.Units.{step, percent, stepOf}
+use Rattle.units.specs.Units.{step, full, off, percent, stepOf}
 use Rattle.units.proofs.Laws.{step-within}
 use Rattle.units.specs.declared.Step.{Step}
 use Rattle.dimmer.specs.declared.Options.{Options}
 use Rattle.dimmer.specs.declared.Motion.{Motion}
 use Rattle.dimmer.specs.declared.Motion.the-variants.{Idle, Fading, Blinking}
 use Rattle.dimmer.specs.declared.Dimmer.{Dimmer}
-use Rattle.dimmer.specs.Dimmer.{dimmer, full, off, ticksOf, wanted, fresh, rateOf, allowed, remembered, moved, setTo, stoppedFrom, stopped, Bounded, Within, blinkTicks, blinked, towards, stepped, flipped, faded, flickered, ticked, tickedFrom, distance, walked, gone, running, EndsAfter, flippedBy, tickedByFrom, tickedBy}
+use Rattle.dimmer.specs.Dimmer.{dimmer, ticksOf, wanted, fresh, rateOf, allowed, remembered, moved, setTo, stoppedFrom, stopped, Bounded, Within, blinkTicks, blinked, towards, stepped, flipped, faded, flickered, ticked, tickedFrom, distance, walked, gone, running, EndsAfter, flippedBy, tickedByFrom, tickedBy}
 
 -- A dimmer after no tick is as it was.
 walked-none : (level target : Step) → walked 0 level target ≡ level

@@ -7,7 +7,7 @@ use lib.Dec.{ltb, eqb}
 use lib.ListN.{getD}
 use Rattle.words.specs.Words.{if_then_else_}
 use Rattle.timers.specs.Timers.{less, beats, turned, turnedBy, beatsBy}
-use Rattle.units.specs.Units.{step, percent, stepOf}
+use Rattle.units.specs.Units.{step, full, off, percent, stepOf}
 use Rattle.units.specs.declared.Step.{Step}
 use Rattle.dimmer.specs.declared.Options.{Options}
 use Rattle.dimmer.specs.declared.Motion.{Motion}
@@ -16,12 +16,6 @@ use Rattle.dimmer.specs.declared.Dimmer.{Dimmer}
 
 abbrev pub dimmer : Step → Step → Motion → Dimmer
 dimmer level last motion = record { level = level; last = last; motion = motion }
-
-abbrev pub full : Step
-full = step 200
-
-abbrev pub off : Step
-off = step 0
 
 -- "Dimmer options 0x8D: bits 3-0 default rate, bit 4 dimming capable."
 unfoldable pub optionsOf : ℕ → Options

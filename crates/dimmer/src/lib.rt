@@ -88,7 +88,7 @@ impl Dimmer {
     {
         Dimmer {
             level,
-            last: Dimmer::FULL,
+            last: Step::FULL,
             motion: Motion::Idle,
         }
     }
@@ -141,7 +141,7 @@ impl Dimmer {
         let last = self.last;
         let period = blink_ticks(value);
         Dimmer {
-            level: Dimmer::FULL,
+            level: Step::FULL,
             last,
             motion: Motion::Blinking {
                 period,
@@ -201,7 +201,7 @@ fn allowed(capable: bool, target: Step) -> Step
     if target.0 == 0 {
         return target;
     }
-    Dimmer::FULL
+    Step::FULL
 }
 
 // A nonzero step becomes the Last On Level.
@@ -332,7 +332,7 @@ fn flipped(level: Step) -> Step
     ensures { λ r. ⌜ r ≡ flipped level ⌝ }
 {
     if level.0 == 0 {
-        return Dimmer::FULL;
+        return Step::FULL;
     }
-    Dimmer::OFF
+    Step::OFF
 }

@@ -6,6 +6,12 @@ use Rattle.units.specs.declared.Percent.{Percent}
 abbrev pub step : ℕ → Step
 step n = record { 0 = n }
 
+abbrev pub full : Step
+full = step 200
+
+abbrev pub off : Step
+off = step 0
+
 abbrev pub percent : ℕ → Percent
 percent n = record { 0 = n }
 

@@ -21,6 +21,10 @@ impl Percent {
 }
 
 impl Step {
+    pub const FULL: Step = Step(200);
+
+    pub const OFF: Step = Step(0);
+
     pub fn percent(self) -> Percent
         ensures { λ r. ⌜ r ≡ percentOf self ⌝ }
     {

@@ -1,0 +1,225 @@
+-- What callers use of orders and gestures: what they write, which mode they leave, and that the level stays within its range.
+use mathlib.Core.Path.{_≡_, refl, _∙_}
+use mathlib.Core.List.{List}
+use Prim.Native.Nat.{ℕ, _≤_}
+use native.Mathlib.Omega.{arith}
+use lib.Dec.{eqb, ltb}
+use borrow.Author.Tests.{eqb-true}
+use Rattle.words.specs.Words.{if_then_else_}
+use Rattle.words.proofs.Laws.{both, cases}
+use Rattle.units.specs.Units.{percent}
+use Rattle.units.proofs.Laws.{step-within}
+use Rattle.units.specs.declared.Step.{Step}
+use Rattle.vault.specs.declared.Mode.{Mode}
+use Rattle.vault.specs.declared.Mode.the-variants.{Normal, Setup, Factory}
+use Rattle.dimmer.specs.Dimmer.{Within, optionsOf}
+use Rattle.dimmer.proofs.Laws.{fresh-within, set-within, stop-within, blink-within, tick-within}
+use Rattle.judge.specs.declared.Order.{Order}
+use Rattle.judge.specs.declared.Order.the-variants as order
+use Rattle.paddle.specs.declared.Gesture.{Gesture}
+use Rattle.paddle.specs.declared.Gesture.the-variants.{Nothing, Taps, Hold, Release}
+use Rattle.registers.specs.Places.{dimmingIn, singleIn, doubleIn, savedIn, componentIn}
+use Rattle.registers.specs.declared.write.Write.the-variants.{Nothing as Unwritten}
+use Rattle.acts.specs.Core
+use Rattle.acts.specs.Core.{effect, unwritten, startLevel, started, aged, saved, setting, stopping, entering, opened}
+use Rattle.acts.specs.Orders
+use Rattle.acts.specs.Orders.{blinking, storing, performed}
+use Rattle.acts.specs.Gestures
+use Rattle.acts.specs.Gestures.{far, doing, holding, tapsInNormal, tapsInSetup, tapsInFactory, inNormal, inSetup, inFactory, actedIn, acted}
+use Rattle.acts.specs.declared.Core.{Core}
+use Rattle.acts.specs.declared.Effect.{Effect}
+
+-- No gesture, no act.
+nothing-in : (mode : Mode) (all : List ℕ) (paddle : ℕ) (c : Core) → actedIn mode all paddle Nothing c ≡ unwritten c
+unfolding actedIn inNormal inSetup inFactory
+nothing-in Normal all paddle c = refl
+nothing-in Setup all paddle c = refl
+nothing-in Factory all paddle c = refl
+
+pub nothing-acts : (all : List ℕ) (paddle : ℕ) (c : Core) → acted all paddle Nothing c ≡ unwritten c
+unfolding acted
+nothing-acts all paddle c = nothing-in (c .mode) all paddle c
+
+-- What a gesture writes, and which mode it leaves.
+module _ (all : List ℕ) (paddle : ℕ) (c : Core) where
+  taps-write-in-normal : (n : ℕ) → tapsInNormal all paddle n c .write ≡ Gestures.writes Normal (Taps n)
+  unfolding tapsInNormal Gestures.writes unwritten opened
+  taps-write-in-normal n =
+      cases Says (eqb n 1) (λ h. rw (eqb-true n 1 h)) (λ _. cases Says (eqb n 2) (λ h. rw (eqb-true n 2 h)) (λ _. cases Says (eqb n 5) (λ h. rw h) (λ h. rw h)))
+    where
+      Says : Effect → Type 0
+      Says e = e .write ≡ Gestures.writes Normal (Taps n)
+
+  taps-write-in-setup : (n : ℕ) → tapsInSetup n c .write ≡ Gestures.writes Setup (Taps n)
+  unfolding tapsInSetup Gestures.writes unwritten
+  taps-write-in-setup n =
+      cases Says (eqb n 2) (λ h. rw (eqb-true n 2 h)) (λ _. cases Says (eqb n 10) (λ h. rw h) (λ h. rw h))
+    where
+      Says : Effect → Type 0
+      Says e = e .write ≡ Gestures.writes Setup (Taps n)
+
+  taps-write-in-factory : (n : ℕ) → tapsInFactory all paddle n c .write ≡ Unwritten
+  unfolding tapsInFactory unwritten
+  taps-write-in-factory n = both Says (eqb n 1) refl (both Says (eqb n 2) refl refl)
+    where
+      Says : Effect → Type 0
+      Says e = e .write ≡ Unwritten
+
+  writes-in : (mode : Mode) (g : Gesture) → actedIn mode all paddle g c .write ≡ Gestures.writes mode g
+  unfolding actedIn inNormal inSetup inFactory Gestures.writes unwritten
+  writes-in Normal Nothing = refl
+  writes-in Normal (Taps n) = taps-write-in-normal n
+  writes-in Normal Hold = refl
+  writes-in Normal Release = refl
+  writes-in Setup Nothing = refl
+  writes-in Setup (Taps n) = taps-write-in-setup n
+  writes-in Setup Hold = refl
+  writes-in Setup Release = refl
+  writes-in Factory Nothing = refl
+  writes-in Factory (Taps n) = taps-write-in-factory n
+  writes-in Factory Hold = refl
+  writes-in Factory Release = refl
+
+pub gesture-writes : (all : List ℕ) (paddle : ℕ) (g : Gesture) (c : Core) → acted all paddle g c .write ≡ Gestures.writes (c .mode) g
+unfolding acted
+gesture-writes all paddle g c = writes-in all paddle c (c .mode) g
+
+holding-mode : (all : List ℕ) (paddle : ℕ) (c : Core) → holding all paddle c .mode ≡ c .mode
+unfolding holding setting
+holding-mode all paddle c = both (λ (d : Core). d .mode ≡ c .mode) (optionsOf (dimmingIn all) .capable) refl refl
+
+module _ (all : List ℕ) (paddle : ℕ) (c : Core) where
+  taps-lead-in-normal : (n : ℕ) → c .mode ≡ Normal → tapsInNormal all paddle n c .core .mode ≡ Gestures.leads Normal (Taps n)
+  unfolding tapsInNormal Gestures.leads unwritten opened entering doing setting
+  taps-lead-in-normal n e =
+      cases Says (eqb n 1) (λ h. rw (eqb-true n 1 h) e) (λ _. cases Says (eqb n 2) (λ h. rw (eqb-true n 2 h) e) (λ _. cases Says (eqb n 5) (λ h. rw h) (λ h. rw h e)))
+    where
+      Says : Effect → Type 0
+      Says f = f .core .mode ≡ Gestures.leads Normal (Taps n)
+
+  taps-lead-in-setup : (n : ℕ) → c .mode ≡ Setup → tapsInSetup n c .core .mode ≡ Gestures.leads Setup (Taps n)
+  unfolding tapsInSetup Gestures.leads unwritten entering
+  taps-lead-in-setup n e =
+      cases Says (eqb n 2) (λ h. rw h) (λ h. cases Says (eqb n 10) (λ k. rw (h, k)) (λ k. rw (h, k) e))
+    where
+      Says : Effect → Type 0
+      Says f = f .core .mode ≡ Gestures.leads Setup (Taps n)
+
+  taps-lead-in-factory : (n : ℕ) → c .mode ≡ Factory → tapsInFactory all paddle n c .core .mode ≡ Gestures.leads Factory (Taps n)
+  unfolding tapsInFactory Gestures.leads unwritten entering doing setting
+  taps-lead-in-factory n e =
+      cases Says (eqb n 1) (λ h. rw (eqb-true n 1 h) e) (λ _. cases Says (eqb n 2) (λ h. rw h) (λ h. rw h e))
+    where
+      Says : Effect → Type 0
+      Says f = f .core .mode ≡ Gestures.leads Factory (Taps n)
+
+  leads-in : (mode : Mode) (g : Gesture) → c .mode ≡ mode → actedIn mode all paddle g c .core .mode ≡ Gestures.leads mode g
+  unfolding actedIn inNormal inSetup inFactory Gestures.leads unwritten stopping
+  leads-in Normal Nothing e = e
+  leads-in Normal (Taps n) e = taps-lead-in-normal n e
+  leads-in Normal Hold e = holding-mode all paddle c ∙ e
+  leads-in Normal Release e = e
+  leads-in Setup Nothing e = e
+  leads-in Setup (Taps n) e = taps-lead-in-setup n e
+  leads-in Setup Hold e = e
+  leads-in Setup Release e = e
+  leads-in Factory Nothing e = e
+  leads-in Factory (Taps n) e = taps-lead-in-factory n e
+  leads-in Factory Hold e = holding-mode all paddle c ∙ e
+  leads-in Factory Release e = e
+
+pub gesture-leads : (all : List ℕ) (paddle : ℕ) (g : Gesture) (c : Core) → acted all paddle g c .core .mode ≡ Gestures.leads (c .mode) g
+unfolding acted
+gesture-leads all paddle g c = leads-in all paddle c (c .mode) g refl
+
+-- What an order writes, and which mode it leaves.
+pub order-writes : (all : List ℕ) (o : Order) (c : Core) → performed all o c .write ≡ Orders.writes o (c .dimmer .level)
+unfolding performed storing Orders.writes unwritten
+order-writes all (order.Refused n) c = refl
+order-writes all (order.Open guess) c = refl
+order-writes all order.Close c = refl
+order-writes all (order.Get first count) c = refl
+order-writes all (order.Set first) c = refl
+order-writes all (order.Activate i) c = refl
+order-writes all (order.Deactivate i) c = refl
+order-writes all (order.Goto target rate) c = refl
+order-writes all order.Stop c = refl
+order-writes all (order.Blink value) c = refl
+order-writes all order.Report c = refl
+order-writes all (order.Store i) c = refl
+
+pub order-leads : (all : List ℕ) (o : Order) (c : Core) → performed all o c .core .mode ≡ Orders.leads o (c .mode)
+unfolding performed storing Orders.leads unwritten entering setting stopping blinking
+order-leads all (order.Refused n) c = refl
+order-leads all (order.Open guess) c = refl
+order-leads all order.Close c = refl
+order-leads all (order.Get first count) c = refl
+order-leads all (order.Set first) c = refl
+order-leads all (order.Activate i) c = refl
+order-leads all (order.Deactivate i) c = refl
+order-leads all (order.Goto target rate) c = refl
+order-leads all order.Stop c = refl
+order-leads all (order.Blink value) c = refl
+order-leads all order.Report c = refl
+order-leads all (order.Store i) c = refl
+
+-- Level and Last On Level stay within 0 to 200, whatever is done.
+abbrev pub Ranged : Core → Type 0
+Ranged c = Within (c .dimmer)
+
+pub start-ranged : (all : List ℕ) → Ranged (started all)
+unfolding started startLevel
+start-ranged all = fresh-within (startLevel (savedIn all)) (both (λ (s : Step). s .0 ≤ 200) (ltb 100 (savedIn all)) (omega arith) (step-within (percent (savedIn all))))
+
+pub age-ranged : (c : Core) → Ranged c → Ranged (aged c)
+unfolding aged
+age-ranged c = tick-within (c .dimmer)
+
+setting-ranged : (all : List ℕ) (level rate : ℕ) (c : Core) → Ranged c → Ranged (setting all level rate c)
+unfolding setting
+setting-ranged all level rate c = set-within (c .dimmer) level rate (optionsOf (dimmingIn all))
+
+pub order-ranged : (all : List ℕ) (o : Order) (c : Core) → Ranged c → Ranged (performed all o c .core)
+unfolding performed storing unwritten entering stopping blinking
+order-ranged all (order.Refused n) c w = w
+order-ranged all (order.Open guess) c w = w
+order-ranged all order.Close c w = w
+order-ranged all (order.Get first count) c w = w
+order-ranged all (order.Set first) c w = w
+order-ranged all (order.Activate i) c w = setting-ranged all (componentIn all i .level) (componentIn all i .rate) c w
+order-ranged all (order.Deactivate i) c w = setting-ranged all 0 (componentIn all i .rate) c w
+order-ranged all (order.Goto target rate) c w = setting-ranged all target rate c w
+order-ranged all order.Stop c w = stop-within (c .dimmer) w
+order-ranged all (order.Blink value) c w = blink-within (c .dimmer) value w
+order-ranged all order.Report c w = w
+order-ranged all (order.Store i) c w = w
+
+abbrev Leaves : Effect → Type 0
+Leaves e = Ranged (e .core)
+
+module _ (all : List ℕ) (paddle : ℕ) (c : Core) (w : Ranged c) where
+  holding-ranged : Ranged (holding all paddle c)
+  unfolding holding
+  holding-ranged = both Ranged (optionsOf (dimmingIn all) .capable) (setting-ranged all (far paddle) 255 c w) w
+
+  ranged-in : (mode : Mode) (g : Gesture) → Ranged (actedIn mode all paddle g c .core)
+  unfolding actedIn inNormal inSetup inFactory tapsInNormal tapsInSetup tapsInFactory unwritten opened entering stopping doing
+  ranged-in Normal Nothing = w
+  ranged-in Normal (Taps n) =
+      both Leaves (eqb n 1) (setting-ranged all (singleIn all paddle .level) (singleIn all paddle .rate) c w)
+      (both Leaves (eqb n 2) (setting-ranged all (doubleIn all paddle .level) (doubleIn all paddle .rate) c w) (both Leaves (eqb n 5) w w))
+  ranged-in Normal Hold = holding-ranged
+  ranged-in Normal Release = stop-within (c .dimmer) w
+  ranged-in Setup Nothing = w
+  ranged-in Setup (Taps n) = both Leaves (eqb n 2) w (both Leaves (eqb n 10) w w)
+  ranged-in Setup Hold = w
+  ranged-in Setup Release = w
+  ranged-in Factory Nothing = w
+  ranged-in Factory (Taps n) =
+      both Leaves (eqb n 1) (setting-ranged all (singleIn all paddle .level) (singleIn all paddle .rate) c w) (both Leaves (eqb n 2) w w)
+  ranged-in Factory Hold = holding-ranged
+  ranged-in Factory Release = stop-within (c .dimmer) w
+
+pub gesture-ranged : (all : List ℕ) (paddle : ℕ) (g : Gesture) (c : Core) → Ranged c → Ranged (acted all paddle g c .core)
+unfolding acted
+gesture-ranged all paddle g c w = ranged-in all paddle c w (c .mode) g

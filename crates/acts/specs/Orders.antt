@@ -1,0 +1,71 @@
+-- What a packet's order does, as document 01 has it under "Commands". Start Setup is the vault's to settle; here it does nothing.
+use mathlib.Core.List.{List}
+use Prim.Native.Nat.{ℕ}
+use Rattle.units.specs.Units.{percentOf}
+use Rattle.units.specs.declared.Step.{Step}
+use Rattle.vault.specs.declared.Mode.{Mode}
+use Rattle.vault.specs.declared.Mode.the-variants.{Normal}
+use Rattle.dimmer.specs.Dimmer.{blinked}
+use Rattle.judge.specs.declared.Order.{Order}
+use Rattle.judge.specs.declared.Order.the-variants as order
+use Rattle.registers.specs.Places.{componentIn}
+use Rattle.registers.specs.declared.write.Write.{Write}
+use Rattle.registers.specs.declared.write.Write.the-variants.{Nothing, Preset, Values}
+use Rattle.acts.specs.Core.{effect, unwritten, withDimmer, setting, stopping, entering}
+use Rattle.acts.specs.declared.Core.{Core}
+use Rattle.acts.specs.declared.Effect.{Effect}
+
+-- "0x25 Blink (optional value)"
+unfoldable pub blinking : ℕ → Core → Core
+blinking value c = withDimmer (blinked (c .dimmer) value) c
+
+-- "0x31 Store Preset (percent into its level)"
+unfoldable pub storing : ℕ → Core → Effect
+storing i c = effect c (Preset i (percentOf (c .dimmer .level)))
+
+unfoldable pub performed : List ℕ → Order → Core → Effect
+performed all (order.Refused n) c = unwritten c
+performed all (order.Open guess) c = unwritten c
+-- "0x04 Stop Setup (only in Setup, to Normal)"
+performed all order.Close c = unwritten (entering Normal c)
+performed all (order.Get first count) c = unwritten c
+-- "0x11 Set Registers (first, 1 to 16 values)"
+performed all (order.Set first) c = effect c (Values first)
+-- "0x20 Activate (component's level and rate), 0x21 Deactivate (0 at its rate)"
+performed all (order.Activate i) c = unwritten (setting all (componentIn all i .level) (componentIn all i .rate) c)
+performed all (order.Deactivate i) c = unwritten (setting all 0 (componentIn all i .rate) c)
+-- "0x22 Goto and 0x23 Fade Start (level, optional rate ..), 0x24 Fade Stop, 0x25 Blink (optional value)"
+performed all (order.Goto level rate) c = unwritten (setting all level rate c)
+performed all order.Stop c = unwritten (stopping c)
+performed all (order.Blink value) c = unwritten (blinking value c)
+performed all order.Report c = unwritten c
+performed all (order.Store i) c = storing i c
+
+-- What an order writes and which mode it leaves.
+unfoldable pub writes : Order → Step → Write
+writes (order.Refused n) level = Nothing
+writes (order.Open guess) level = Nothing
+writes order.Close level = Nothing
+writes (order.Get first count) level = Nothing
+writes (order.Set first) level = Values first
+writes (order.Activate i) level = Nothing
+writes (order.Deactivate i) level = Nothing
+writes (order.Goto target rate) level = Nothing
+writes order.Stop level = Nothing
+writes (order.Blink value) level = Nothing
+writes order.Report level = Nothing
+writes (order.Store i) level = Preset i (percentOf level)
+
+unfoldable pub leads : Order → Mode → Mode
+leads (order.Refused n) mode = mode
+leads (order.Open guess) mode = mode
+leads order.Close mode = Normal
+leads (order.Get first count) mode = mode
+leads (order.Set first) mode = mode
+leads (order.Activate i) mode = mode
+leads (order.Deactivate i) mode = mode
+leads (order.Goto target rate) mode = mode
+leads order.Stop mode = mode
+leads (order.Blink value) mode = mode
+leads order.Report mode = mode
+leads (order.Store i) mode = mode

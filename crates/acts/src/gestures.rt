@@ -1,0 +1,126 @@
+// What a paddle's gesture does by the mode it finds. The paddle is known by its number: an even one is a top.
+ghost use mathlib.Core.Path.{_≡_};
+ghost use Rattle.acts.specs.Gestures.{acted, inNormal, inSetup, inFactory, tapsInNormal, tapsInSetup, tapsInFactory, doing, holding, far};
+use crate::Core;
+use crate::Effect;
+use dimmer::Options;
+use paddle::Gesture;
+use registers::places::Action;
+use registers::write::Write;
+use vault::Mode;
+
+pub fn act(core: Core, all: &[u8; 256], paddle: u8, gesture: Gesture) -> Effect
+    ensures { λ r. ⌜ r ≡ acted (now (all .entry)) paddle gesture core ⌝ }
+{
+    let mode = core.mode;
+    match mode {
+        Mode::Normal => in_normal(core, all, paddle, gesture),
+        Mode::Setup => in_setup(core, gesture),
+        Mode::Factory => in_factory(core, all, paddle, gesture),
+    }
+}
+
+fn in_normal(core: Core, all: &[u8; 256], paddle: u8, gesture: Gesture) -> Effect
+    ensures { λ r. ⌜ r ≡ inNormal (now (all .entry)) paddle gesture core ⌝ }
+{
+    match gesture {
+        Gesture::Nothing => core.unwritten(),
+        Gesture::Taps(taps) => taps_in_normal(core, all, paddle, taps),
+        Gesture::Hold => holding(core, all, paddle).unwritten(),
+        Gesture::Release => core.stopping().unwritten(),
+    }
+}
+
+fn in_setup(core: Core, gesture: Gesture) -> Effect
+    ensures { λ r. ⌜ r ≡ inSetup gesture core ⌝ }
+{
+    match gesture {
+        Gesture::Nothing => core.unwritten(),
+        Gesture::Taps(taps) => taps_in_setup(core, taps),
+        Gesture::Hold => core.unwritten(),
+        Gesture::Release => core.unwritten(),
+    }
+}
+
+fn in_factory(core: Core, all: &[u8; 256], paddle: u8, gesture: Gesture) -> Effect
+    ensures { λ r. ⌜ r ≡ inFactory (now (all .entry)) paddle gesture core ⌝ }
+{
+    match gesture {
+        Gesture::Nothing => core.unwritten(),
+        Gesture::Taps(taps) => taps_in_factory(core, all, paddle, taps),
+        Gesture::Hold => holding(core, all, paddle).unwritten(),
+        Gesture::Release => core.stopping().unwritten(),
+    }
+}
+
+// 1 and 2 set the level from the action table; 5 enters Setup.
+fn taps_in_normal(core: Core, all: &[u8; 256], paddle: u8, taps: u8) -> Effect
+    ensures { λ r. ⌜ r ≡ tapsInNormal (now (all .entry)) paddle taps core ⌝ }
+{
+    if taps == 1 {
+        return doing(core, all, registers::places::single(all, paddle)).unwritten();
+    }
+    if taps == 2 {
+        return doing(core, all, registers::places::double(all, paddle)).unwritten();
+    }
+    if taps == 5 {
+        return core.opened();
+    }
+    core.unwritten()
+}
+
+// Only 2 and 10 act.
+fn taps_in_setup(core: Core, taps: u8) -> Effect
+    ensures { λ r. ⌜ r ≡ tapsInSetup taps core ⌝ }
+{
+    if taps == 2 {
+        return core.entering(Mode::Normal).unwritten();
+    }
+    if taps == 10 {
+        return Effect {
+            core: core.entering(Mode::Factory),
+            write: Write::Factory,
+        };
+    }
+    core.unwritten()
+}
+
+// 2 returns to Normal; 5 does nothing.
+fn taps_in_factory(core: Core, all: &[u8; 256], paddle: u8, taps: u8) -> Effect
+    ensures { λ r. ⌜ r ≡ tapsInFactory (now (all .entry)) paddle taps core ⌝ }
+{
+    if taps == 1 {
+        return doing(core, all, registers::places::single(all, paddle)).unwritten();
+    }
+    if taps == 2 {
+        return core.entering(Mode::Normal).unwritten();
+    }
+    core.unwritten()
+}
+
+fn doing(core: Core, all: &[u8; 256], action: Action) -> Core
+    ensures { λ r. ⌜ r ≡ doing (now (all .entry)) action core ⌝ }
+{
+    core.setting(all, action.level, action.rate)
+}
+
+// Hold, if capable, sets full or off at the default rate.
+fn holding(core: Core, all: &[u8; 256], paddle: u8) -> Core
+    ensures { λ r. ⌜ r ≡ holding (now (all .entry)) paddle core ⌝ }
+{
+    let options = Options::of(registers::places::dimming(all));
+    if options.capable {
+        return core.setting(all, far(paddle), 255);
+    }
+    core
+}
+
+// The level at the paddle's end: 100 for the top, 0 for the bottom.
+fn far(paddle: u8) -> u8
+    ensures { λ r. ⌜ r ≡ far paddle ⌝ }
+{
+    if paddle % 2 == 0 {
+        return 100;
+    }
+    0
+}

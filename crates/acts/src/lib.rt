@@ -1,0 +1,133 @@
+// What a tick, a packet's order and a paddle's gesture do to the core of a switch. The registers are only read here; what is
+// to be written to them comes back.
+ghost use mathlib.Core.Path.{_≡_};
+ghost use Rattle.acts.specs.Core.{unwritten, startLevel, started, aged, toSave, saved, setting, stopping, entering, opened};
+use dimmer::Dimmer;
+use dimmer::Options;
+use lamp::Lamp;
+use registers::places::Counter;
+use registers::write::Write;
+use units::Percent;
+use units::Step;
+use vault::Mode;
+
+pub mod gestures;
+pub mod orders;
+
+// Ticks from one saving of the level to the next.
+const SAVE: u16 = 480;
+
+// All that a switch holds besides its registers, its paddles and its password. `save`: the metronome of the saved level.
+pub struct Core {
+    pub mode: Mode,
+    pub dimmer: Dimmer,
+    pub lamp: Lamp,
+    pub save: u16,
+}
+
+// What an act leaves: the next core, and what is to be written to the registers.
+pub struct Effect {
+    pub core: Core,
+    pub write: Write,
+}
+
+impl Core {
+    // As after a start or a restart.
+    pub fn started(all: &[u8; 256]) -> Core
+        ensures { λ r. ⌜ r ≡ started (now (all .entry)) ⌝ }
+    {
+        let level = start_level(registers::places::saved(all));
+        Core {
+            mode: Mode::Normal,
+            dimmer: Dimmer::fresh(level),
+            lamp: Lamp::fresh(),
+            save: timers::run(SAVE),
+        }
+    }
+
+    // The first half of a tick: lamp and output timers, fade or blink.
+    pub fn aged(mut self) -> Core
+        ensures { λ r. ⌜ r ≡ aged self ⌝ }
+    {
+        self.lamp = self.lamp.tick();
+        self.dimmer = self.dimmer.tick();
+        self
+    }
+
+    // The end of a tick.
+    pub fn saved(mut self) -> Effect
+        ensures { λ r. ⌜ r ≡ saved self ⌝ }
+    {
+        let write = self.to_save();
+        self.save = timers::turn(SAVE, self.save);
+        Effect { core: self, write }
+    }
+
+    fn to_save(self) -> Write
+        ensures { λ r. ⌜ r ≡ toSave self ⌝ }
+    {
+        if self.save == 0 {
+            let dimmer = self.dimmer;
+            return Write::Save(dimmer.level.percent());
+        }
+        Write::Nothing
+    }
+
+    fn unwritten(self) -> Effect
+        ensures { λ r. ⌜ r ≡ unwritten self ⌝ }
+    {
+        Effect {
+            core: self,
+            write: Write::Nothing,
+        }
+    }
+
+    // Sets a level by what 0x8D says now.
+    fn setting(mut self, all: &[u8; 256], level: u8, rate: u8) -> Core
+        ensures { λ r. ⌜ r ≡ setting (now (all .entry)) level rate self ⌝ }
+    {
+        let options = Options::of(registers::places::dimming(all));
+        self.dimmer = self.dimmer.set(level, rate, options);
+        self
+    }
+
+    fn stopping(mut self) -> Core
+        ensures { λ r. ⌜ r ≡ stopping self ⌝ }
+    {
+        self.dimmer = self.dimmer.stop();
+        self
+    }
+
+    // A mode change: the flash and the mode blinks begin.
+    fn entering(self, mode: Mode) -> Core
+        ensures { λ r. ⌜ r ≡ entering mode self ⌝ }
+    {
+        let dimmer = self.dimmer;
+        let lamp = self.lamp.entered();
+        Core {
+            mode,
+            dimmer,
+            lamp,
+            save: self.save,
+        }
+    }
+
+    // Setup is entered.
+    pub fn opened(self) -> Effect
+        ensures { λ r. ⌜ r ≡ opened self ⌝ }
+    {
+        Effect {
+            core: self.entering(Mode::Setup),
+            write: Write::Count(Counter::Setups),
+        }
+    }
+}
+
+fn start_level(saved: u8) -> Step
+    ensures { λ r. ⌜ r ≡ startLevel saved ⌝ }
+{
+    if 100 < saved {
+        return Step::OFF;
+    }
+    Percent(saved).step()
+}

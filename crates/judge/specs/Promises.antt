@@ -1,0 +1,218 @@
+-- What is promised of the judgement beyond its equation: when each of the numbers 9 to 13 is given, and what an order says of the packet
+-- that asks for it. `all` are the registers, h the header and m the message.
+use mathlib.Core.Bool.{Bool, true, false}
+use mathlib.Core.List.{List, [], _∷_}
+use mathlib.Core.Logic.{_↔_, _⊎_}
+use mathlib.Core.Path.{_≡_}
+use Prim.Native.Nat.{ℕ, _+_, _≤_, _<_}
+use lib.ListN.{length, drop}
+use Rattle.vault.specs.declared.Mode.{Mode}
+use Rattle.vault.specs.declared.Mode.the-variants.{Normal, Setup}
+use Rattle.dimmer.specs.Dimmer.{optionsOf}
+use Rattle.packet.specs.declared.Header.{Header}
+use Rattle.registers.specs.Places.{networkIn, unitIn, dimmingIn}
+use Rattle.registers.specs.Registers.{found}
+use Rattle.registers.specs.declared.Found.the-variants.{At, Nowhere}
+use Rattle.judge.specs.declared.Verb.{Verb}
+use Rattle.judge.specs.declared.Verb.the-variants.{Open, Close, Get, Set, Activate, Deactivate, Goto, FadeStart, FadeStop, Blink, Report, Store, Unlisted}
+use Rattle.judge.specs.declared.Order.{Order}
+use Rattle.judge.specs.declared.Order.the-variants as order
+use Rattle.judge.specs.Judge.{argument, values, verbOf, judged, numberOf}
+
+-- 9: "network is neither 0 nor register 0x00"
+abbrev pub Unheard : List ℕ → Header → Type 0
+Unheard all h = (h .network ≡ 0 → ⊥) × (h .network ≡ networkIn all → ⊥)
+
+-- 10: "direct: destination neither 0 nor register 0x01; link: no matching component"
+abbrev pub NotFor : Bool → List ℕ → ℕ → Type 0
+NotFor false all destination = (destination ≡ 0 → ⊥) × (destination ≡ unitIn all → ⊥)
+NotFor true all destination = found all destination ≡ Nowhere
+
+abbrev pub Unreached : List ℕ → Header → Type 0
+Unreached all h = NotFor (h .link) all (h .destination)
+
+-- 11: "command not listed"
+abbrev pub commands : List ℕ
+commands = 0x03 ∷ 0x04 ∷ 0x10 ∷ 0x11 ∷ 0x20 ∷ 0x21 ∷ 0x22 ∷ 0x23 ∷ 0x24 ∷ 0x25 ∷ 0x30 ∷ 0x31 ∷ []
+
+abbrev pub NoneOf : List ℕ → ℕ → Type 0
+NoneOf [] n = Unit {0}
+NoneOf (k ∷ ks) n = (n ≡ k → ⊥) × NoneOf ks n
+
+-- 12: "wrong argument count or register range" is where this does not hold. At least and at most so many arguments ..
+abbrev pub Takes : ℕ → ℕ → List ℕ → Type 0
+Takes least most m = (least < length m) × (length m ≤ most + 1)
+
+-- .. and "count 1 to 16", "A range past 0xFF is 12".
+abbrev pub Range : ℕ → ℕ → Type 0
+Range first count = (1 ≤ count) × ((count ≤ 16) × (first + count ≤ 256))
+
+abbrev pub Suits : Verb → List ℕ → Type 0
+Suits Open m = Takes 2 2 m
+Suits Close m = Takes 0 0 m
+Suits Get m = Takes 2 2 m × Range (argument m 1) (argument m 2)
+Suits Set m = Range (argument m 1) (values m)
+Suits Activate m = Takes 0 0 m
+Suits Deactivate m = Takes 0 0 m
+Suits Goto m = Takes 1 2 m
+Suits FadeStart m = Takes 1 2 m
+Suits FadeStop m = Takes 0 0 m
+Suits Blink m = Takes 0 1 m
+Suits Report m = Takes 0 0 m
+Suits Store m = Takes 0 0 m
+Suits Unlisted m = ⊥
+
+-- 13: "not permitted here" is where this does not hold. "Direct to our own nonzero unit only (destination 0 is 13)" ..
+abbrev pub ToUs : List ℕ → Header → Type 0
+ToUs all h = (h .link ≡ false) × ((h .destination ≡ unitIn all) × (h .destination ≡ 0 → ⊥))
+
+-- .. "a request that needs [a reply] from source 0 is 13" ..
+abbrev pub Asked : List ℕ → Header → Type 0
+Asked all h = ToUs all h × (h .source ≡ 0 → ⊥)
+
+-- .. and "Fade Start is 13 if not capable".
+abbrev pub Capable : List ℕ → Type 0
+Capable all = optionsOf (dimmingIn all) .capable ≡ true
+
+abbrev pub Permitted : Verb → List ℕ → Mode → Header → Type 0
+Permitted Open all mode h = ToUs all h × (mode ≡ Normal)
+Permitted Close all mode h = (h .link ≡ false) × (mode ≡ Setup)
+Permitted Get all mode h = Asked all h
+Permitted Set all mode h = ToUs all h × (mode ≡ Setup)
+Permitted Activate all mode h = h .link ≡ true
+Permitted Deactivate all mode h = h .link ≡ true
+Permitted Goto all mode h = Unit {0}
+Permitted FadeStart all mode h = Capable all
+Permitted FadeStop all mode h = Unit {0}
+Permitted Blink all mode h = Unit {0}
+Permitted Report all mode h = Asked all h
+Permitted Store all mode h = h .link ≡ true
+Permitted Unlisted all mode h = ⊥
+
+-- passes 9 and 10
+abbrev pub Reached : List ℕ → Header → Type 0
+Reached all h = (Unheard all h → ⊥) × (Unreached all h → ⊥)
+
+-- passes 9 to 11
+abbrev pub Listed : List ℕ → Header → List ℕ → Type 0
+Listed all h m = Reached all h × (NoneOf commands (argument m 0) → ⊥)
+
+-- passes 9 to 12
+abbrev pub Suited : List ℕ → Header → List ℕ → Type 0
+Suited all h m = Listed all h m × Suits (verbOf (argument m 0)) m
+
+-- The rows of the table: the row's condition, and none of an earlier row.
+pub data Refusal (all : List ℕ) (mode : Mode) (h : Header) (m : List ℕ) : ℕ → Type 0 where
+  wrong-network : Unheard all h → Refusal all mode h m 9
+  not-ours : (Unheard all h → ⊥) → Unreached all h → Refusal all mode h m 10
+  not-listed : Reached all h → NoneOf commands (argument m 0) → Refusal all mode h m 11
+  wrong-arguments : Listed all h m → (Suits (verbOf (argument m 0)) m → ⊥) → Refusal all mode h m 12
+  not-permitted : Suited all h m → (Permitted (verbOf (argument m 0)) all mode h → ⊥) → Refusal all mode h m 13
+
+-- By link, where i is the matching component.
+abbrev pub ByLink : ℕ → List ℕ → Header → Type 0
+ByLink i all h = (h .link ≡ true) × (found all (h .destination) ≡ At i)
+
+-- The packets by which an order can come: by link, direct to our own unit, direct (destination 0 too), or any.
+abbrev pub Comes : Order → List ℕ → Header → Type 0
+Comes (order.Refused n) all h = ⊥
+Comes (order.Open guess) all h = ToUs all h
+Comes order.Close all h = h .link ≡ false
+Comes (order.Get first count) all h = Asked all h
+Comes (order.Set first) all h = ToUs all h
+Comes (order.Activate i) all h = ByLink i all h
+Comes (order.Deactivate i) all h = ByLink i all h
+Comes (order.Goto level rate) all h = Unit {0}
+Comes order.Stop all h = Unit {0}
+Comes (order.Blink value) all h = Unit {0}
+Comes order.Report all h = Asked all h
+Comes (order.Store i) all h = ByLink i all h
+
+-- The modes in which it can come: "13 unless Normal", "only in Setup", or any.
+abbrev pub When : Order → Mode → Type 0
+When (order.Refused n) mode = ⊥
+When (order.Open guess) mode = mode ≡ Normal
+When order.Close mode = mode ≡ Setup
+When (order.Get first count) mode = Unit {0}
+When (order.Set first) mode = mode ≡ Setup
+When (order.Activate i) mode = Unit {0}
+When (order.Deactivate i) mode = Unit {0}
+When (order.Goto level rate) mode = Unit {0}
+When order.Stop mode = Unit {0}
+When (order.Blink value) mode = Unit {0}
+When order.Report mode = Unit {0}
+When (order.Store i) mode = Unit {0}
+
+-- "level, optional rate"
+abbrev pub Level : ℕ → ℕ → ℕ → List ℕ → Type 0
+Level command level rate m = (m ≡ command ∷ level ∷ rate ∷ []) ⊎ ((m ≡ command ∷ level ∷ []) × (rate ≡ 255))
+
+-- The messages that ask for it.
+abbrev pub Says : Order → List ℕ → List ℕ → Type 0
+Says (order.Refused n) all m = ⊥
+Says (order.Open guess) all m = m ≡ 0x03 ∷ guess .0 ∷ guess .1 ∷ []
+Says order.Close all m = m ≡ 0x04 ∷ []
+Says (order.Get first count) all m = (m ≡ 0x10 ∷ first ∷ count ∷ []) × Range first count
+Says (order.Set first) all m = (m ≡ 0x11 ∷ first ∷ drop 2 m) × Range first (length (drop 2 m))
+Says (order.Activate i) all m = m ≡ 0x20 ∷ []
+Says (order.Deactivate i) all m = m ≡ 0x21 ∷ []
+Says (order.Goto level rate) all m = Level 0x22 level rate m ⊎ (Level 0x23 level rate m × Capable all)
+Says order.Stop all m = m ≡ 0x24 ∷ []
+Says (order.Blink value) all m = (m ≡ 0x25 ∷ value ∷ []) ⊎ ((m ≡ 0x25 ∷ []) × (value ≡ 0))
+Says order.Report all m = m ≡ 0x30 ∷ []
+Says (order.Store i) all m = m ≡ 0x31 ∷ []
+
+-- An order that is to be done: the packet passes 9 and 10, and comes by the right packet, in the right mode, with the right message.
+pub record Accepted (o : Order) (all : List ℕ) (mode : Mode) (h : Header) (m : List ℕ) : Type 0 where
+  pub reached : Reached all h
+  pub comes : Comes o all h
+  pub when : When o mode
+  pub says : Says o all m
+
+-- What holds where an answer is given: its row of the table, or its command's sentence.
+abbrev pub Given : Order → List ℕ → Mode → Header → List ℕ → Type 0
+Given (order.Refused n) all mode h m = Refusal all mode h m n
+Given (order.Open guess) all mode h m = Accepted (order.Open guess) all mode h m
+Given order.Close all mode h m = Accepted order.Close all mode h m
+Given (order.Get first count) all mode h m = Accepted (order.Get first count) all mode h m
+Given (order.Set first) all mode h m = Accepted (order.Set first) all mode h m
+Given (order.Activate i) all mode h m = Accepted (order.Activate i) all mode h m
+Given (order.Deactivate i) all mode h m = Accepted (order.Deactivate i) all mode h m
+Given (order.Goto level rate) all mode h m = Accepted (order.Goto level rate) all mode h m
+Given order.Stop all mode h m = Accepted order.Stop all mode h m
+Given (order.Blink value) all mode h m = Accepted (order.Blink value) all mode h m
+Given order.Report all mode h m = Accepted order.Report all mode h m
+Given (order.Store i) all mode h m = Accepted (order.Store i) all mode h m
+
+-- Each answer is given exactly when document 01 says.
+abbrev pub GivenExactly : Type 0
+GivenExactly = (o : Order) (all : List ℕ) (mode : Mode) (h : Header) (m : List ℕ) → (judged all mode h m ≡ o) ↔ Given o all mode h m
+
+-- "Given exactly when", for the numbers: a number other than 0 is given exactly when its row says, and only 9 to 13 have one.
+abbrev pub NumberExactly : Type 0
+NumberExactly =
+    (n : ℕ) (all : List ℕ) (mode : Mode) (h : Header) (m : List ℕ) → (n ≡ 0 → ⊥)
+    → (numberOf (judged all mode h m) ≡ n) ↔ Refusal all mode h m n
+
+abbrev pub OnlyThese : Type 0
+OnlyThese = (n : ℕ) (all : List ℕ) (mode : Mode) (h : Header) (m : List ℕ) → Refusal all mode h m n → (9 ≤ n) × (n ≤ 13)
+
+-- Examples of the order of the checks, for any packet that passes 9 and 10.
+pub record Examples (all : List ℕ) (mode : Mode) (h : Header) : Type 0 where
+  -- A Get of no registers, or of 17, is 12: by link, to destination 0 and from source 0 too.
+  pub count-0 : (first : ℕ) → judged all mode h (0x10 ∷ first ∷ 0 ∷ []) ≡ order.Refused 12
+  pub count-17 : (first : ℕ) → judged all mode h (0x10 ∷ first ∷ 17 ∷ []) ≡ order.Refused 12
+  -- A Set past 0xFF is 12 in every mode.
+  pub past-0xFF : (a b : ℕ) → judged all mode h (0x11 ∷ 0xFF ∷ a ∷ b ∷ []) ≡ order.Refused 12
+  -- A direct Activate with an argument is 12, without one 13.
+  pub with-argument : (a : ℕ) → judged all mode h (0x20 ∷ a ∷ []) ≡ order.Refused 12
+  pub without : h .link ≡ false → judged all mode h (0x20 ∷ []) ≡ order.Refused 13
+  -- Any guess outside Normal, or to destination 0, is 13.
+  pub outside-normal : (mode ≡ Normal → ⊥) → (a b : ℕ) → judged all mode h (0x03 ∷ a ∷ b ∷ []) ≡ order.Refused 13
+  pub to-everyone : h .destination ≡ 0 → (a b : ℕ) → judged all mode h (0x03 ∷ a ∷ b ∷ []) ≡ order.Refused 13
+  -- A received reply is 11.
+  pub status-reply : (rest : List ℕ) → judged all mode h (0x86 ∷ rest) ≡ order.Refused 11
+  pub registers-reply : (rest : List ℕ) → judged all mode h (0x90 ∷ rest) ≡ order.Refused 11
+
+abbrev pub InOrder : Type 0
+InOrder = (all : List ℕ) (mode : Mode) (h : Header) → Reached all h → Examples all mode h

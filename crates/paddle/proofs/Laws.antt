@@ -1,0 +1,320 @@
+-- What holds of every paddle, of any number: many ticks at once, the wait for a gesture, presses by their length.
+use mathlib.Core.Bool.{Bool, true, false, true≢false, _||_, or-true, and-false, and-not-self}
+use mathlib.Core.Path.{_≡_, refl, ap, sym, _∙_}
+use Prim.Native.Nat.{ℕ, zero, suc, _-_, _<_, _≤_, min, max}
+use native.Mathlib.Omega.{arith}
+use lib.Dec.{ltb, leb, eqb}
+use borrow.Author.Tests.{lt-ltb, le-ltb, le-leb, lt-leb, eq-eqb, ne-eqb, eqb-true, ltb-true}
+use Rattle.words.specs.Words.{if_then_else_}
+use Rattle.words.proofs.Laws.{both, cases, two-ways, three-ways}
+use Rattle.timers.specs.Timers.{less, lessBy}
+use Rattle.timers.proofs.Laws.{less-none, less-more}
+use Rattle.paddle.specs.declared.Contact.{Contact}
+use Rattle.paddle.specs.declared.Contact.the-variants.{Local, Slave}
+use Rattle.paddle.specs.declared.Gesture.{Gesture}
+use Rattle.paddle.specs.declared.Gesture.the-variants.{Nothing, Hold, Release}
+use Rattle.paddle.specs.declared.Paddle.{Paddle}
+use Rattle.paddle.specs.Paddle.{holdTicks, paddle, down, moved, begun, pressed, counted, tapped, ended, ending, goesUp, released, gestureUp}
+use Rattle.paddle.specs.Paddle.{ends, closing, completed, gesture, left, kept, next}
+use Rattle.paddle.specs.Promises.{Wait, never, after, waitFor, wait, due, past, gestureAfter, ticks, skip, Once, pressFor, gestureFor, raised, CaseF, CaseG, touched}
+
+-- Both ways the same.
+pub either : {A : Type 0} (x : A) (b : Bool) → (if b then x else x) ≡ x
+either x true = refl
+either x false = refl
+
+-- A test, made after n ticks, that comes true where a wait of k ends.
+record Ends (e : Bool) (k n : ℕ) : Type 0 where
+  now : k ≡ n → e ≡ true
+  early : n < k → e ≡ false
+
+at-hold : (hold n : ℕ) → 0 < hold → Ends (eqb (hold - n) 1) (hold - 1) n
+at-hold hold n h = record { now = λ e. eq-eqb (hold - n) 1 (omega arith); early = λ e. ne-eqb (hold - n) 1 (omega arith) }
+
+at-close : (gap n : ℕ) → Ends (leb (gap - n) 1) (gap - 1) n
+at-close gap n = record { now = λ e. le-leb (gap - n) 1 (omega arith); early = λ e. lt-leb (gap - n) 1 (omega arith) }
+
+-- Where the wait ends the taps go, and they stay gone.
+dropped : {e : Bool} {k n : ℕ} (taps : ℕ) → Ends e k n → (if e then 0 else if ltb k n then 0 else taps) ≡ (if ltb k (suc n) then 0 else taps)
+dropped {e} {k} {n} taps at =
+    three-ways k n
+    (λ (h : k < n). simp (lt-ltb k n h, lt-ltb k (suc n) (omega arith)) (either 0 e))
+    (λ (h : k ≡ n). simp (at .now h, lt-ltb k (suc n) (omega arith)))
+    (λ (h : n < k). simp (at .early h, le-ltb k n (omega arith), le-ltb k (suc n) (omega arith)))
+
+-- There the gesture comes, and then no more.
+given : {e : Bool} {k n : ℕ} (g : ℕ → Gesture) (taps : ℕ) → Ends e k n → (k < n → (if e then g 0 else Nothing) ≡ Nothing)
+    → (if e then g (if ltb k n then 0 else taps) else Nothing) ≡ (if eqb k n then g taps else Nothing)
+given {e} {k} {n} g taps at late =
+    three-ways k n
+    (λ (h : k < n). simp (lt-ltb k n h, ne-eqb k n (omega arith)) (late h))
+    (λ (h : k ≡ n). simp (at .now h, le-ltb k n (omega arith), eq-eqb k n h))
+    (λ (h : n < k). simp (at .early h, ne-eqb k n (omega arith)))
+
+-- No tick: the paddle is as it was.
+unpassed : (w : Wait) (taps : ℕ) → (if past 0 w then 0 else taps) ≡ taps
+unfolding past
+unpassed never taps = refl
+unpassed (after k) taps = rw (le-ltb k 0 (omega arith))
+
+pub skip-none : (p : Paddle) → skip 0 p ≡ p
+unfolding skip
+skip-none p =
+    let hold = cases (λ (x : ℕ). x ≡ p .hold) (down p) (λ e. less-none (p .hold)) (λ e. refl) in
+    let taps = unpassed (wait p) (p .taps) in
+    λ i. paddle (p .local) (p .slave) (hold i) (less-none (p .gap) i) (taps i)
+
+-- One tick more, down (d) and up: the ticks before Hold, the taps, the gesture.
+hold-more : (d : Bool) (n hold : ℕ)
+    → (if d then less (if d then lessBy n hold else hold) else if d then lessBy n hold else hold) ≡ (if d then lessBy (suc n) hold else hold)
+hold-more true n hold = less-more n hold
+hold-more false n hold = refl
+
+taps-more : (d : Bool) (n hold gap taps : ℕ)
+    → (if (if d then eqb (if d then lessBy n hold else hold) 1 else leb (lessBy n gap) 1) then 0
+    else if past n (if d then waitFor hold hold else waitFor taps gap) then 0 else taps)
+    ≡ (if past (suc n) (if d then waitFor hold hold else waitFor taps gap) then 0 else taps)
+unfolding less lessBy past waitFor
+taps-more true n hold gap taps =
+    two-ways 0 hold
+    (λ (h : 0 < hold). simp (ne-eqb hold 0 (omega arith)) (dropped taps (at-hold hold n h)))
+    (λ (h : hold ≤ 0). simp (eq-eqb hold 0 (omega arith), ne-eqb (hold - n) 1 (omega arith)))
+taps-more false n hold gap taps =
+    two-ways 0 taps
+    (λ (h : 0 < taps). simp (ne-eqb taps 0 (omega arith)) (dropped taps (at-close gap n)))
+    (λ (h : taps ≤ 0). let z : taps ≡ 0 = omega arith in simp z (either 0 (leb (gap - n) 1)))
+
+pub closing-none : (e : Bool) → (if e then closing 0 else Nothing) ≡ Nothing
+unfolding closing
+closing-none e = either Nothing e
+
+gesture-more : (d : Bool) (n hold gap taps : ℕ)
+    → (if (if d then eqb (if d then lessBy n hold else hold) 1 else leb (lessBy n gap) 1)
+    then if d then Hold else closing (if past n (if d then waitFor hold hold else waitFor taps gap) then 0 else taps) else Nothing)
+    ≡ (if due n (if d then waitFor hold hold else waitFor taps gap) then if d then Hold else closing taps else Nothing)
+unfolding less lessBy past due waitFor
+gesture-more true n hold gap taps =
+    two-ways 0 hold
+    (λ (h : 0 < hold). simp (ne-eqb hold 0 (omega arith)) (given (λ _. Hold) taps (at-hold hold n h) (λ e. simp (ne-eqb (hold - n) 1 (omega arith)))))
+    (λ (h : hold ≤ 0). simp (eq-eqb hold 0 (omega arith), ne-eqb (hold - n) 1 (omega arith)))
+gesture-more false n hold gap taps =
+    two-ways 0 taps
+    (λ (h : 0 < taps). simp (ne-eqb taps 0 (omega arith)) (given closing taps (at-close gap n) (λ e. closing-none (leb (gap - n) 1))))
+    (λ (h : taps ≤ 0). let z : taps ≡ 0 = omega arith in simp z (closing-none (leb (gap - n) 1)))
+
+-- The closed form goes on as a tick does.
+pub skip-more : (n : ℕ) (p : Paddle) → next (skip n p) ≡ skip (suc n) p
+unfolding skip next left kept ends down wait
+skip-more n p =
+    let hold = hold-more (down p) n (p .hold) in
+    let taps = taps-more (down p) n (p .hold) (p .gap) (p .taps) in
+    λ i. paddle (p .local) (p .slave) (hold i) (less-more n (p .gap) i) (taps i)
+
+-- So it is n single ticks.
+pub skip-ticks : (n : ℕ) (p : Paddle) → skip n p ≡ ticks n p
+unfolding ticks
+skip-ticks zero p = skip-none p
+skip-ticks (suc n) p = sym (skip-more n p) ∙ ap next (skip-ticks n p)
+
+-- The exact wait: the tick after n ticks completes a gesture where n is the wait, and nothing elsewhere.
+pub gesture-after : (n : ℕ) (p : Paddle) → gesture (skip n p) ≡ gestureAfter n p
+unfolding skip gesture gestureAfter completed ends down wait
+gesture-after n p = gesture-more (down p) n (p .hold) (p .gap) (p .taps)
+
+pub gesture-ticks : (n : ℕ) (p : Paddle) → gesture (ticks n p) ≡ gestureAfter n p
+gesture-ticks n p = ap gesture (sym (skip-ticks n p)) ∙ gesture-after n p
+
+-- Where n is not the wait, nothing is completed.
+pub quiet : (n : ℕ) (p : Paddle) → due n (wait p) ≡ false → gesture (ticks n p) ≡ Nothing
+unfolding gestureAfter
+quiet n p e = gesture-ticks n p ∙ simp e
+
+-- Between two edges a paddle completes at most one gesture.
+due-once : (m n : ℕ) (w : Wait) → due m w ≡ true → due n w ≡ true → m ≡ n
+unfolding due
+due-once m n never e f = let z : _≡_ {A = ℕ} 0 1 = cc in omega arith
+due-once m n (after k) e f = omega (arith, eqb-true k m e, eqb-true k n f)
+
+owed : (n : ℕ) (p : Paddle) (d : Bool) → due n (wait p) ≡ d → (gesture (ticks n p) ≡ Nothing → ⊥) → due n (wait p) ≡ true
+owed n p true e some = e
+owed n p false e some = absurd (some (quiet n p e))
+
+pub once : (p : Paddle) → Once p
+once p m n some other =
+    due-once m n (wait p) (owed m p (due m (wait p)) refl some) (owed n p (due n (wait p)) refl other)
+
+-- Ticks leave the contacts alone.
+pub tick-contacts : (p : Paddle) → (next p .local ≡ p .local) × (next p .slave ≡ p .slave)
+unfolding next
+tick-contacts p = (refl, refl)
+
+pub skip-contacts : (n : ℕ) (p : Paddle) → (skip n p .local ≡ p .local) × (skip n p .slave ≡ p .slave)
+unfolding skip
+skip-contacts n p = (refl, refl)
+
+-- An edge moves its own contact and no other.
+pub pressed-contacts : (c : Contact) (p : Paddle) → (pressed c p .local ≡ moved c true p .local) × (pressed c p .slave ≡ moved c true p .slave)
+unfolding pressed
+pressed-contacts c p = (refl, refl)
+
+ended-contacts : (p : Paddle) → (ended p .local ≡ p .local) × (ended p .slave ≡ p .slave)
+unfolding ended tapped
+ended-contacts p =
+    let Kept : Paddle → Type 0 = λ q. (q .local ≡ p .local) × (q .slave ≡ p .slave) in
+    both Kept (eqb (p .hold) 0) (refl, refl) (both Kept (leb (p .hold) 120) (refl, refl) (refl, refl))
+
+pub released-contacts : (c : Contact) (p : Paddle) → (released c p .local ≡ moved c false p .local) × (released c p .slave ≡ moved c false p .slave)
+unfolding released
+released-contacts c p =
+    both (λ (q : Paddle). (q .local ≡ moved c false p .local) × (q .slave ≡ moved c false p .slave)) (goesUp c p) (ended-contacts (moved c false p)) (refl, refl)
+
+-- "An edge that finds its contact already so is 0 and alters nothing."
+as-it-is : (c : Contact) (p : Paddle) → moved c (touched c p) p ≡ p
+unfolding moved touched
+as-it-is Local p = refl
+as-it-is Slave p = refl
+
+stays : (c : Contact) (p : Paddle) (b : Bool) → touched c p ≡ b → moved c b p ≡ p
+stays c p b e = ap (λ (t : Bool). moved c t p) (sym e) ∙ as-it-is c p
+
+-- A paddle is down while one of its contacts is.
+pub touched-down : (c : Contact) (p : Paddle) → touched c p ≡ true → down p ≡ true
+unfolding touched down
+touched-down Local p e = ap (λ (b : Bool). b || p .slave) e
+touched-down Slave p e = ap (λ (b : Bool). p .local || b) e ∙ or-true (p .local)
+
+pub pressed-again : (c : Contact) (p : Paddle) → touched c p ≡ true → pressed c p ≡ p
+unfolding pressed begun
+pressed-again c p e = simp (stays c p true e, touched-down c p e)
+
+pub released-again : (c : Contact) (p : Paddle) → touched c p ≡ false → (released c p ≡ p) × (gestureUp c p ≡ Nothing)
+unfolding released gestureUp goesUp
+released-again c p e = simp (stays c p false e, and-not-self (down p)) (refl, refl)
+
+-- A press that overlaps another of the same paddle moves nothing but its contact; so does a release that leaves the paddle down.
+pub pressed-over : (c : Contact) (p : Paddle) → down p ≡ true → pressed c p ≡ moved c true p
+unfolding pressed begun moved
+pressed-over Local p e = simp e
+pressed-over Slave p e = simp e
+
+pub released-under : (c : Contact) (p : Paddle) → down (moved c false p) ≡ true
+    → (released c p ≡ moved c false p) × (gestureUp c p ≡ Nothing)
+unfolding released gestureUp goesUp
+released-under c p e = simp (e, and-false (down p)) (refl, refl)
+
+-- A paddle is up where neither contact is down.
+neither : (l s : Bool) → (l || s) ≡ false → (l ≡ false) × (s ≡ false)
+neither true s e = absurd (true≢false e)
+neither false s e = (refl, e)
+
+pub up-raised : (p : Paddle) → down p ≡ false → p ≡ raised (p .hold) (p .gap) (p .taps)
+unfolding down
+up-raised p e = let n = neither (p .local) (p .slave) e in λ i. paddle (n .0 i) (n .1 i) (p .hold) (p .gap) (p .taps)
+
+-- A press of a paddle that is up, n ticks long, and its release: Hold drops the taps.
+abbrev still : ℕ → ℕ → ℕ
+still n taps = if ltb 179 n then 0 else taps
+
+held : (n : ℕ) (c : Contact) (hold gap taps : ℕ)
+    → skip n (pressed c (raised hold gap taps)) ≡ moved c true (raised (lessBy n holdTicks) (lessBy n gap) (still n taps))
+unfolding skip pressed moved begun down wait waitFor past less
+held n Local hold gap taps = refl
+held n Slave hold gap taps = refl
+
+let-go : (c : Contact) (hold gap taps : ℕ)
+    → (released c (moved c true (raised hold gap taps)) ≡ ended (raised hold gap taps))
+    × (gestureUp c (moved c true (raised hold gap taps)) ≡ ending (raised hold gap taps))
+unfolding released gestureUp goesUp moved down
+let-go Local hold gap taps = (refl, refl)
+let-go Slave hold gap taps = (refl, refl)
+
+let-go-after : (n : ℕ) (c : Contact) (hold gap taps : ℕ)
+    → (pressFor n c (raised hold gap taps) ≡ ended (raised (lessBy n holdTicks) (lessBy n gap) (still n taps)))
+    × (gestureFor n c (raised hold gap taps) ≡ ending (raised (lessBy n holdTicks) (lessBy n gap) (still n taps)))
+let-go-after n c hold gap taps =
+    let h = sym (skip-ticks n (pressed c (raised hold gap taps))) ∙ held n c hold gap taps in
+    let e = let-go c (lessBy n holdTicks) (lessBy n gap) (still n taps) in
+    (ap (released c) h ∙ e .0, ap (gestureUp c) h ∙ e .1)
+
+-- "released before 60, nothing": the gap goes on as if there had been no press.
+pub too-short : (n : ℕ) (c : Contact) (hold gap taps : ℕ) → n < 60
+    → (pressFor n c (raised hold gap taps) ≡ raised (180 - n) (gap - n) taps) × (gestureFor n c (raised hold gap taps) ≡ Nothing)
+unfolding ended ending lessBy
+too-short n c hold gap taps h =
+    let e = let-go-after n c hold gap taps in
+    simp (e .0, e .1, le-ltb 179 n (omega arith), ne-eqb (180 - n) 0 (omega arith), lt-leb (180 - n) 120 (omega arith)) (refl, refl)
+
+-- "60 to 179, a tap": it is counted, and restarts the gap.
+pub a-tap : (n : ℕ) (c : Contact) (hold gap taps : ℕ) → 60 ≤ n → n < 180
+    → (pressFor n c (raised hold gap taps) ≡ raised (180 - n) 180 (counted taps)) × (gestureFor n c (raised hold gap taps) ≡ Nothing)
+unfolding ended ending tapped lessBy
+a-tap n c hold gap taps h k =
+    let e = let-go-after n c hold gap taps in
+    simp (e .0, e .1, le-ltb 179 n (omega arith), ne-eqb (180 - n) 0 (omega arith), le-leb (180 - n) 120 (omega arith)) (refl, refl)
+
+-- "at 180, Hold, which drops earlier taps, and Release when let go".
+pub a-hold : (n : ℕ) (c : Contact) (hold gap taps : ℕ) → 180 ≤ n
+    → (pressFor n c (raised hold gap taps) ≡ raised 0 (gap - n) 0) × (gestureFor n c (raised hold gap taps) ≡ Release)
+unfolding ended ending lessBy
+a-hold n c hold gap taps h =
+    let e = let-go-after n c hold gap taps in
+    let none : 180 - n ≡ 0 = omega arith in
+    simp (e .0, e .1, lt-ltb 179 n (omega arith), none) (refl, refl)
+
+-- Hold comes in the 180th tick of the press and in no other.
+pub hold-comes : (n : ℕ) (c : Contact) (hold gap taps : ℕ)
+    → gesture (ticks n (pressed c (raised hold gap taps))) ≡ (if eqb 179 n then Hold else Nothing)
+unfolding gestureAfter due wait waitFor completed pressed moved begun down less
+hold-comes n Local hold gap taps = gesture-ticks n (pressed Local (raised hold gap taps))
+hold-comes n Slave hold gap taps = gesture-ticks n (pressed Slave (raised hold gap taps))
+
+-- A run stays open until its closing tick: with the paddle up, ticks before it take nothing but the gap.
+pub run-open : (n hold gap taps : ℕ) → n < max 1 gap → ticks n (raised hold gap taps) ≡ raised hold (gap - n) taps
+unfolding skip down wait waitFor past less lessBy
+run-open n hold gap taps h =
+    sym (skip-ticks n (raised hold gap taps)) ∙
+    two-ways 0 taps
+    (λ (some : 0 < taps). simp (ne-eqb taps 0 (omega arith), le-ltb (gap - 1) n (omega arith)))
+    (λ (none : taps ≤ 0). simp (eq-eqb taps 0 (omega arith)))
+
+-- "A press at gap 179 joins the run": so does every press, long enough, before the closing tick.
+pub joins : (n m : ℕ) (c : Contact) (hold gap taps : ℕ) → n < max 1 gap → 60 ≤ m → m < 180
+    → pressFor m c (ticks n (raised hold gap taps)) ≡ raised (180 - m) 180 (counted taps)
+joins n m c hold gap taps before long short =
+    ap (pressFor m c) (run-open n hold gap taps before) ∙ a-tap m c hold (gap - n) taps long short .0
+
+-- The closing tick gives the taps.
+pub closes : (hold gap taps : ℕ) → gesture (ticks (gap - 1) (raised hold gap taps)) ≡ closing taps
+unfolding gestureAfter due wait waitFor completed down less closing
+closes hold gap taps =
+    gesture-ticks (gap - 1) (raised hold gap taps) ∙
+    two-ways 0 taps
+    (λ (some : 0 < taps). simp (ne-eqb taps 0 (omega arith), eq-eqb (gap - 1) (gap - 1) refl))
+    (λ (none : taps ≤ 0). simp (eq-eqb taps 0 (omega arith)))
+
+-- "The tap count stops at 11": the tap after the kth of a run.
+pub counts : (k : ℕ) → counted (min k 11) ≡ min (suc k) 11
+unfolding counted
+counts k =
+    two-ways k 11
+    (λ (h : k < 11). let e : min k 11 ≡ k = omega arith in simp (e, lt-ltb k 11 h) (omega arith))
+    (λ (h : 11 ≤ k). let e : min k 11 ≡ 11 = omega arith in simp e (omega arith))
+
+pub counted-within : (taps : ℕ) → taps ≤ 11 → counted taps ≤ 11
+unfolding counted
+counted-within taps h = cases (λ (x : ℕ). x ≤ 11) (ltb taps 11) (λ e. omega (arith, ltb-true taps 11 e)) (λ e. h)
+
+-- Cases (f) and (g) of document 01.
+pub case-f : (c : Contact) → CaseF c
+unfolding counted
+case-f c = record {
+  nothing = let e = too-short 59 c 0 0 0 (omega arith) in (ap (λ (p : Paddle). p .taps) (e .0), e .1);
+  shortest = let e = a-tap 60 c 0 0 0 (omega arith) (omega arith) in (ap (λ (p : Paddle). p .taps) (e .0), e .1);
+  longest = let e = a-tap 179 c 0 0 0 (omega arith) (omega arith) in (ap (λ (p : Paddle). p .taps) (e .0), e .1);
+  hold = (hold-comes 179 c 0 0 0, a-hold 180 c 0 0 0 (omega arith) .1);
+}
+
+pub case-g : (c : Contact) → CaseG c
+unfolding counted
+case-g c = ap (λ (p : Paddle). pressFor 60 c (ticks 179 p) .taps) (a-tap 60 c 0 0 0 (omega arith) (omega arith) .0)
+    ∙ ap (λ (p : Paddle). p .taps) (joins 179 60 c 120 180 1 (omega arith) (omega arith) (omega arith))

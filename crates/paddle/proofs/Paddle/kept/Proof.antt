@@ -1,0 +1,18 @@
+use Rattle.paddle.specs.Paddle.{kept}
+use borrow.Author.Needs.{needs}
+use Rattle.paddle.proofs.Paddle.kept.Statement.{statement}
+use Rattle.paddle.proofs.Paddle.kept.Tie as tie
+
+ends-requires : tie.Need-ends-requires
+ends-requires c κs = search needs
+
+returns : tie.Need-returns
+unfolding kept
+returns c = simp (← c .before .ends .ensures, c .if1 .taken)
+
+returns-2 : tie.Need-returns-2
+unfolding kept
+returns-2 c = simp (← c .before .ends .ensures, c .if1 .left)
+
+pub kept-spec : {M : Type 1} → statement M
+kept-spec = tie.close (tie.spec ends-requires returns returns-2)

@@ -1,0 +1,2 @@
+pub mod Paddle
+pub mod Promises

@@ -1,0 +1,93 @@
+-- What is promised of a paddle beyond one event: many ticks at once, the wait for a gesture, and what does not matter.
+use mathlib.Core.Bool.{Bool, false}
+use mathlib.Core.Path.{_≡_}
+use Prim.Native.Nat.{ℕ, zero, suc}
+use lib.Dec.{ltb, eqb}
+use Rattle.words.specs.Words.{if_then_else_}
+use Rattle.timers.specs.Timers.{less, lessBy}
+use Rattle.paddle.specs.declared.Contact.{Contact}
+use Rattle.paddle.specs.declared.Contact.the-variants.{Local, Slave}
+use Rattle.paddle.specs.declared.Gesture.{Gesture}
+use Rattle.paddle.specs.declared.Gesture.the-variants.{Nothing, Hold, Release}
+use Rattle.paddle.specs.declared.Paddle.{Paddle}
+use Rattle.paddle.specs.Paddle.{paddle, fresh, down, pressed, released, gestureUp, completed, gesture, next}
+
+-- After how many ticks that complete nothing the tick comes that completes a gesture, if no edge comes first.
+pub data Wait : Type 0 where
+  never : Wait
+  after : ℕ → Wait
+
+unfoldable pub waitFor : ℕ → ℕ → Wait
+waitFor owed left = if eqb owed 0 then never else after (less left)
+
+-- Down, a paddle owes Hold; up, it owes the taps that are counted.
+unfoldable pub wait : Paddle → Wait
+wait p = if down p then waitFor (p .hold) (p .hold) else waitFor (p .taps) (p .gap)
+
+-- n ticks are just the wait; n ticks are more than the wait.
+unfoldable pub due : ℕ → Wait → Bool
+due n never = false
+due n (after k) = eqb k n
+
+unfoldable pub past : ℕ → Wait → Bool
+past n never = false
+past n (after k) = ltb k n
+
+-- The gesture of the tick that follows n ticks.
+unfoldable pub gestureAfter : ℕ → Paddle → Gesture
+gestureAfter n p = if due n (wait p) then completed p else Nothing
+
+-- n ticks one by one, and in closed form: the gesture takes the taps with it.
+unfoldable pub ticks : ℕ → Paddle → Paddle
+ticks zero p = p
+ticks (suc n) p = next (ticks n p)
+
+unfoldable pub skip : ℕ → Paddle → Paddle
+skip n p = paddle (p .local) (p .slave) (if down p then lessBy n (p .hold) else p .hold) (lessBy n (p .gap)) (if past n (wait p) then 0 else p .taps)
+
+-- Between two edges a paddle completes at most one gesture.
+abbrev pub Once : Paddle → Type 0
+Once p = (m n : ℕ) → (gesture (ticks m p) ≡ Nothing → ⊥) → (gesture (ticks n p) ≡ Nothing → ⊥) → m ≡ n
+
+-- A press of n ticks: the paddle let go, and the gesture then.
+abbrev pub pressFor : ℕ → Contact → Paddle → Paddle
+pressFor n contact p = released contact (ticks n (pressed contact p))
+
+abbrev pub gestureFor : ℕ → Contact → Paddle → Gesture
+gestureFor n contact p = gestureUp contact (ticks n (pressed contact p))
+
+-- "(f) Presses of 59, 60, 179, 180 ticks: nothing, tap, tap, Hold", of a paddle just started.
+pub record CaseF (contact : Contact) : Type 0 where
+  pub nothing : (pressFor 59 contact fresh .taps ≡ 0) × (gestureFor 59 contact fresh ≡ Nothing)
+  pub shortest : (pressFor 60 contact fresh .taps ≡ 1) × (gestureFor 60 contact fresh ≡ Nothing)
+  pub longest : (pressFor 179 contact fresh .taps ≡ 1) × (gestureFor 179 contact fresh ≡ Nothing)
+  pub hold : (gesture (ticks 179 (pressed contact fresh)) ≡ Hold) × (gestureFor 180 contact fresh ≡ Release)
+
+-- "(g) A press at gap 179 joins the run": two taps, the second pressed 179 ticks after the first was counted.
+abbrev pub CaseG : Contact → Type 0
+CaseG contact = pressFor 60 contact (ticks 179 (pressFor 60 contact fresh)) .taps ≡ 2
+
+-- A paddle that is up.
+abbrev pub raised : ℕ → ℕ → ℕ → Paddle
+raised hold gap taps = paddle false false hold gap taps
+
+-- What matters of a paddle: the ticks before Hold only while down, the gap only while taps are counted.
+abbrev pub heeded : ℕ → ℕ → ℕ
+heeded taps gap = if eqb taps 0 then 0 else gap
+
+unfoldable pub essence : Paddle → Paddle
+essence p = paddle (p .local) (p .slave) (if down p then p .hold else 0) (heeded (p .taps) (p .gap)) (p .taps)
+
+abbrev pub Alike : Paddle → Paddle → Type 0
+Alike p q = essence p ≡ essence q
+
+-- Two paddles of which no event can tell which is which.
+pub record Same (p q : Paddle) : Type 0 where
+  pub press : (contact : Contact) → Alike (pressed contact p) (pressed contact q)
+  pub release : (contact : Contact) → (gestureUp contact p ≡ gestureUp contact q) × Alike (released contact p) (released contact q)
+  pub tick : (gesture p ≡ gesture q) × Alike (next p) (next q)
+
+-- Whether a contact is down.
+unfoldable pub touched : Contact → Paddle → Bool
+touched Local p = p .local
+touched Slave p = p .slave

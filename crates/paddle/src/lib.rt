@@ -1,0 +1,228 @@
+// One paddle: edges and ticks in, gestures out. Nothing here knows which paddle of the switch it is.
+ghost use mathlib.Core.Path.{_≡_};
+ghost use Rattle.paddle.specs.Paddle.{fresh, down, pressed, released, gestureUp, next, gesture, turn};
+ghost use Rattle.paddle.specs.Paddle.{moved, begun, ended, ending, tapped, counted, ends, completed, closing, left, kept};
+
+// Ticks from the press to Hold.
+const HOLD: u16 = 180;
+// Ticks from a counted tap to the close of its run.
+const GAP: u16 = 180;
+// A press of 60 ticks or more leaves at most this much of HOLD.
+const TAP: u16 = 120;
+// The tap count stops here.
+const MOST: u8 = 11;
+
+// A paddle has a contact of its own and one of the slave switch.
+pub enum Contact {
+    Local,
+    Slave,
+}
+
+pub enum Gesture {
+    Nothing,
+    Taps(u8),
+    Hold,
+    Release,
+}
+
+// `hold`: ticks left before Hold. `gap`: ticks left of the gap. `taps`: taps counted in the run.
+pub struct Paddle {
+    pub local: bool,
+    pub slave: bool,
+    pub hold: u16,
+    pub gap: u16,
+    pub taps: u8,
+}
+
+// What an event makes of a paddle, and the gesture that it completes.
+pub struct Turn {
+    pub paddle: Paddle,
+    pub gesture: Gesture,
+}
+
+impl Paddle {
+    // As after a start or a restart.
+    pub fn up() -> Paddle
+        ensures { λ r. ⌜ r ≡ fresh ⌝ }
+    {
+        Paddle {
+            local: false,
+            slave: false,
+            hold: 0,
+            gap: 0,
+            taps: 0,
+        }
+    }
+
+    pub fn down(self) -> bool
+        ensures { λ r. ⌜ r ≡ down self ⌝ }
+    {
+        self.local | self.slave
+    }
+
+    // A press that overlaps another one of the same paddle is part of it.
+    pub fn press(self, contact: Contact) -> Paddle
+        ensures { λ r. ⌜ r ≡ pressed contact self ⌝ }
+    {
+        let mut lowered = self.moved(contact, true);
+        lowered.hold = self.begun();
+        lowered
+    }
+
+    // A tap is counted, and Release given, in the edge that lets the paddle go.
+    pub fn release(self, contact: Contact) -> Turn
+        ensures { λ r. ⌜ r ≡ turn (released contact self) (gestureUp contact self) ⌝ }
+    {
+        let lifted = self.moved(contact, false);
+        if self.down() & !lifted.down() {
+            return lifted.ended();
+        }
+        Turn {
+            paddle: lifted,
+            gesture: Gesture::Nothing,
+        }
+    }
+
+    pub fn tick(self) -> Turn
+        ensures { λ r. ⌜ r ≡ turn (next self) (gesture self) ⌝ }
+    {
+        Turn {
+            paddle: self.next(),
+            gesture: self.gesture(),
+        }
+    }
+
+    fn moved(mut self, contact: Contact, down: bool) -> Paddle
+        ensures { λ r. ⌜ r ≡ moved contact down self ⌝ }
+    {
+        match contact {
+            Contact::Local => {
+                self.local = down;
+                self
+            }
+            Contact::Slave => {
+                self.slave = down;
+                self
+            }
+        }
+    }
+
+    // The ticks left before Hold once a contact is pressed.
+    fn begun(self) -> u16
+        ensures { λ r. ⌜ r ≡ begun self ⌝ }
+    {
+        if self.down() {
+            return self.hold;
+        }
+        HOLD
+    }
+
+    // The press that ends here was a Hold, a tap, or too short.
+    fn ended(self) -> Turn
+        ensures { λ r. ⌜ r ≡ turn (ended self) (ending self) ⌝ }
+    {
+        let hold = self.hold;
+        if hold == 0 {
+            return Turn {
+                paddle: self,
+                gesture: Gesture::Release,
+            };
+        }
+        if hold <= TAP {
+            return Turn {
+                paddle: self.tapped(),
+                gesture: Gesture::Nothing,
+            };
+        }
+        Turn {
+            paddle: self,
+            gesture: Gesture::Nothing,
+        }
+    }
+
+    fn tapped(mut self) -> Paddle
+        ensures { λ r. ⌜ r ≡ tapped self ⌝ }
+    {
+        self.gap = GAP;
+        self.taps = counted(self.taps);
+        self
+    }
+
+    // Whether the next tick ends the run: by Hold, or with the paddle up by the gap.
+    fn ends(self) -> bool
+        ensures { λ r. ⌜ r ≡ ends self ⌝ }
+    {
+        if self.down() {
+            return self.hold == 1;
+        }
+        self.gap <= 1
+    }
+
+    fn gesture(self) -> Gesture
+        ensures { λ r. ⌜ r ≡ gesture self ⌝ }
+    {
+        if self.ends() {
+            return self.completed();
+        }
+        Gesture::Nothing
+    }
+
+    fn completed(self) -> Gesture
+        ensures { λ r. ⌜ r ≡ completed self ⌝ }
+    {
+        if self.down() {
+            return Gesture::Hold;
+        }
+        closing(self.taps)
+    }
+
+    fn next(self) -> Paddle
+        ensures { λ r. ⌜ r ≡ next self ⌝ }
+    {
+        Paddle {
+            local: self.local,
+            slave: self.slave,
+            hold: self.left(),
+            gap: timers::run(self.gap),
+            taps: self.kept(),
+        }
+    }
+
+    // Hold comes nearer only while the paddle is down.
+    fn left(self) -> u16
+        ensures { λ r. ⌜ r ≡ left self ⌝ }
+    {
+        if self.down() {
+            return timers::run(self.hold);
+        }
+        self.hold
+    }
+
+    fn kept(self) -> u8
+        ensures { λ r. ⌜ r ≡ kept self ⌝ }
+    {
+        if self.ends() {
+            return 0;
+        }
+        self.taps
+    }
+}
+
+fn counted(taps: u8) -> u8
+    ensures { λ r. ⌜ r ≡ counted taps ⌝ }
+{
+    if taps < MOST {
+        return taps + 1;
+    }
+    taps
+}
+
+// The gesture of a run that closes.
+fn closing(taps: u8) -> Gesture
+    ensures { λ r. ⌜ r ≡ closing taps ⌝ }
+{
+    if taps == 0 {
+        return Gesture::Nothing;
+    }
+    Gesture::Taps(taps)
+}

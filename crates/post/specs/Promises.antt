@@ -1,0 +1,117 @@
+-- What is promised of sending beyond the single functions: our own reader takes every packet sent, what a paddle never sends, what a
+-- reply never shows, how packets fill the places, and the worked cases.
+use mathlib.Core.Bool.{true, false}
+use mathlib.Core.List.{List, [], _∷_, _++_}
+use mathlib.Core.Path.{_≡_}
+use Prim.Native.Nat.{ℕ, suc, _+_, _%_, _≤_, _<_, min}
+use lib.Dec.{eqb}
+use lib.ListN.{length, getD}
+use Rattle.words.specs.Words.{if_then_else_}
+use Rattle.units.specs.Units.{percent}
+use Rattle.units.specs.declared.Percent.{Percent}
+use Rattle.vault.specs.declared.Mode.{Mode}
+use Rattle.vault.specs.declared.Mode.the-variants.{Setup, Factory}
+use Rattle.packet.specs.Layout.{packed}
+use Rattle.packet.specs.Reading.{readOf, messageOf}
+use Rattle.packet.specs.declared.Header.{Header}
+use Rattle.packet.specs.declared.Frame.the-variants.{Read}
+use Rattle.paddle.specs.declared.Gesture.{Gesture}
+use Rattle.paddle.specs.declared.Gesture.the-variants.{Nothing, Taps}
+use Rattle.registers.specs.Places.{networkIn, unitIn, transmitIn, entryIn, secret}
+use Rattle.registers.specs.Registers.{apart, valid}
+use Rattle.registers.specs.declared.Seen.{Seen}
+use Rattle.registers.specs.declared.Seen.the-variants.{Hidden}
+use Rattle.registers.specs.declared.places.Entry.{Entry}
+use Rattle.post.specs.declared.Note.{Note}
+use Rattle.post.specs.declared.Reply.{Reply}
+use Rattle.post.specs.declared.Reply.the-variants.{Status, Registers}
+use Rattle.post.specs.Post.{headed, bytesOf, trimmed, commandNumber, gestureMessage, announced, noteOf, sentOf, replyMessage, replied, front, Laid, place, placedAt, placed}
+
+-- every packet of a list
+abbrev pub Each : (List ℕ → Type 0) → List (List ℕ) → Type 0
+Each P [] = Unit {0}
+Each P (p ∷ rest) = P p × Each P rest
+
+-- A packet of 7 to 24 bytes that our own reader takes, with this header and this message.
+pub record Carries (h : Header) (message p : List ℕ) : Type 0 where
+  pub least : 7 ≤ length p
+  pub most : length p ≤ 24
+  pub header : readOf p ≡ Read h
+  pub bytes : messageOf p ≡ message
+
+-- Every packet that a paddle sends is read as a link packet of our network and unit, with the message of the gesture.
+abbrev pub AnnouncedReads : Type 0
+AnnouncedReads =
+    (all : List ℕ) (mode : Mode) (paddle : ℕ) (g : Gesture) (p : Percent)
+    → Each (Carries (headed all true (transmitIn all paddle .link)) (bytesOf (gestureMessage all mode paddle g p))) (announced all mode paddle g p)
+
+-- Every reply is read as a direct packet of our network and unit to the sender, with the message of the reply.
+abbrev pub RepliedReads : Type 0
+RepliedReads =
+    (all : List ℕ) (seen : Seen) (to : ℕ) (reply : Reply) (p : Percent)
+    → Each (Carries (headed all false to) (replyMessage all seen reply p)) (replied all seen to reply p)
+
+-- What a paddle sends: at most one packet, of 1 to 3 message bytes, and in which cases none.
+pub record Announces (all : List ℕ) (paddle : ℕ) (p : Percent) : Type 0 where
+  pub one : (mode : Mode) (g : Gesture) → length (announced all mode paddle g p) ≤ 1
+  pub few : (mode : Mode) (g : Gesture)
+      → Each (λ packet. (1 ≤ length (messageOf packet)) × (length (messageOf packet) ≤ 3)) (announced all mode paddle g p)
+  pub setup : (g : Gesture) → announced all Setup paddle g p ≡ []
+  pub nothing : (mode : Mode) → announced all mode paddle Nothing p ≡ []
+  pub double : announced all Factory paddle (Taps 2) p ≡ []
+  pub others : (mode : Mode) (taps : ℕ) → (taps ≡ 1 → ⊥) → (taps ≡ 2 → ⊥) → announced all mode paddle (Taps taps) p ≡ []
+  pub silent : (mode : Mode) (g : Gesture) → commandNumber mode (transmitIn all paddle) g % 16 ≡ 15 → announced all mode paddle g p ≡ []
+  pub unlinked : (mode : Mode) (g : Gesture) → transmitIn all paddle .link ≡ 0 → announced all mode paddle g p ≡ []
+  pub unused : (mode : Mode) (g : Gesture) → transmitIn all paddle .link ≡ 255 → announced all mode paddle g p ≡ []
+
+-- The packets of a gesture's note are those that the gesture announces.
+abbrev pub NoteSent : Type 0
+NoteSent =
+    (all : List ℕ) (mode : Mode) (paddle : ℕ) (g : Gesture) (p : Percent)
+    → sentOf (noteOf all mode paddle g p) ≡ announced all mode paddle g p
+
+-- "Outside Setup, Get Registers sends 0 for 0x02 and 0x03": 0 goes out for each of the two places, wherever the range starts, and
+-- nothing that is sent depends on what the array holds there.
+pub record Hides : Type 0 where
+  pub zero : (all : List ℕ) (first count i : ℕ) (p : Percent) → i < min 16 count → secret (first + i) ≡ true
+      → getD (replyMessage all Hidden (Registers first count) p) (suc (suc i)) 0 ≡ 0
+  pub replies : (a b : List ℕ) → apart a ≡ apart b
+      → (seen : Seen) (to : ℕ) (reply : Reply) (p : Percent) → replied a seen to reply p ≡ replied b seen to reply p
+  pub paddles : (a b : List ℕ) → apart a ≡ apart b
+      → (mode : Mode) (paddle : ℕ) (g : Gesture) (p : Percent) → announced a mode paddle g p ≡ announced b mode paddle g p
+
+-- No two outcomes of `lay` and `send`: the promise fixes the answer and every byte of the place.
+abbrev pub OneOutcome : Type 0
+OneOutcome =
+    (sent : List (List ℕ)) (before after after′ : List ℕ) (n n′ : ℕ)
+    → Laid sent before n after → Laid sent before n′ after′ → (n ≡ n′) × (after ≡ after′)
+
+-- Two notes laid one after the other, the second into the first place that is free, fill the places in order.
+abbrev pub InOrder : Type 0
+InOrder =
+    (first second : Note) (before : List ℕ) → place + place ≤ length before
+    → placedAt (if eqb (length (front (sentOf first))) 0 then 0 else place) (front (sentOf second)) (placedAt 0 (front (sentOf first)) before)
+    ≡ placed (sentOf first ++ sentOf second) before
+
+-- "(a) .. is answered by 08 00 01 09 05 86 28 3B": network 1, unit 5, 40 percent, from sender 9.
+abbrev pub CaseA : Type 0
+CaseA =
+    (all : List ℕ) (seen : Seen) → networkIn all ≡ 1 → unitIn all ≡ 5
+    → replied all seen 9 Status (percent 40) ≡ (0x08 ∷ 0x00 ∷ 0x01 ∷ 0x09 ∷ 0x05 ∷ 0x86 ∷ 0x28 ∷ 0x3B ∷ []) ∷ []
+
+abbrev pub entry : ℕ → ℕ → ℕ → Entry
+entry command first second = record { command = command; first = first; second = second }
+
+-- "(j) Command entry 22 FF FF sends two message bytes", whatever the gesture, paddle and mode that have it; and how others are trimmed.
+pub record CaseJ : Type 0 where
+  pub sends : (all : List ℕ) (mode : Mode) (paddle : ℕ) (g : Gesture) (p : Percent)
+      → valid (transmitIn all paddle .link) ≡ true
+      → commandNumber mode (transmitIn all paddle) g % 16 < 14
+      → entryIn all (commandNumber mode (transmitIn all paddle) g % 16) ≡ entry 0x22 0xFF 0xFF
+      → announced all mode paddle g p ≡ packed (headed all true (transmitIn all paddle .link)) (0x22 ∷ 0xFF ∷ []) ∷ []
+  pub goto : bytesOf (trimmed (entry 0x22 0xFF 0xFF)) ≡ 0x22 ∷ 0xFF ∷ []
+  pub fade : bytesOf (trimmed (entry 0x23 0xFF 0xFF)) ≡ 0x23 ∷ 0xFF ∷ []
+  pub blink : bytesOf (trimmed (entry 0x25 0xFF 0xFF)) ≡ 0x25 ∷ []
+  pub inner : bytesOf (trimmed (entry 0x25 0xFF 0x05)) ≡ 0x25 ∷ 0xFF ∷ 0x05 ∷ []
+  pub level : bytesOf (trimmed (entry 0x22 0x32 0xFF)) ≡ 0x22 ∷ 0x32 ∷ []
+  pub absent : (first second : ℕ) → bytesOf (trimmed (entry 0xFF first second)) ≡ []

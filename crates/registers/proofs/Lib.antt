@@ -1,0 +1,5 @@
+pub mod Bytes
+pub mod Finding
+pub mod Laws
+pub mod Order
+pub mod Writing

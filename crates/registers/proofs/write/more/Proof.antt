@@ -1,0 +1,19 @@
+use borrow.Author.Needs.{needs}
+use Rattle.words.proofs.Laws.{tests}
+use Rattle.registers.specs.Write.{counted}
+use Rattle.registers.proofs.write.more.Statement.{statement}
+use Rattle.registers.proofs.write.more.Tie as tie
+
+add-result : tie.Need-add-result
+add-result c = search needs
+
+returns : tie.Need-returns
+unfolding counted
+returns c = search tests
+
+returns-2 : tie.Need-returns-2
+unfolding counted
+returns-2 c = search tests
+
+pub more-spec : {M : Type 1} → statement M
+more-spec = tie.close (tie.spec add-result returns returns-2)

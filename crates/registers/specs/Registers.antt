@@ -1,0 +1,89 @@
+-- The 256 registers with the password held apart: the array's bytes at 0x02 and 0x03 are dead.
+use mathlib.Core.Path.{_≡_}
+use mathlib.Core.Bool.{Bool, _&&_}
+use mathlib.Core.List.{List, [], _∷_}
+use Prim.Native.Nat.{ℕ, zero, suc, _+_, _<_}
+use lib.Dec.{ltb, eqb}
+use lib.ListN.{length, getD, set}
+use Rattle.words.specs.Words.{if_then_else_}
+use Rattle.vault.specs.Vault.{password}
+use Rattle.vault.specs.declared.Password.{Password}
+use Rattle.registers.specs.Places.{size, firstPlace, secondPlace, components, linkIn}
+use Rattle.registers.specs.declared.Seen.{Seen}
+use Rattle.registers.specs.declared.Seen.the-variants.{Hidden, Shown}
+use Rattle.registers.specs.declared.Taken.{Taken}
+use Rattle.registers.specs.declared.Taken.the-variants.{Apart, Refused}
+use Rattle.registers.specs.declared.Found.{Found}
+use Rattle.registers.specs.declared.Found.the-variants.{At, Nowhere}
+
+-- "password 0x02-0x03": taken from an image, and the registers without it.
+unfoldable pub passwordIn : List ℕ → Password
+passwordIn image = password (getD image firstPlace 0) (getD image secondPlace 0)
+
+unfoldable pub apart : List ℕ → List ℕ
+apart image = set (set image firstPlace 0) secondPlace 0
+
+-- The 256 bytes with the password put back, for the owner to save.
+unfoldable pub imageOf : List ℕ → Password → List ℕ
+imageOf all w = set (set all firstPlace (w .0)) secondPlace (w .1)
+
+-- The two dead bytes of the array are 0.
+abbrev pub Dead : List ℕ → Type 0
+Dead all = (getD all firstPlace 0 ≡ 0) × (getD all secondPlace 0 ≡ 0)
+
+-- "A switch starts from a copy of a lent image of 256 register bytes." Refused, the registers keep their bytes.
+unfoldable pub takenOf : List ℕ → Taken
+takenOf image = if eqb (length image) size then Apart (passwordIn image) else Refused
+
+unfoldable pub afterTaking : List ℕ → List ℕ → List ℕ
+afterTaking image all = if eqb (length image) size then apart image else all
+
+pub record Took (image before : List ℕ) (answer : Taken) (after : List ℕ) : Type 0 where
+  pub answered : answer ≡ takenOf image
+  pub registers : after ≡ afterTaking image before
+
+-- "1: image is not 256 bytes"
+unfoldable pub numberTaken : Taken → ℕ
+numberTaken (Apart w) = 0
+numberTaken Refused = 1
+
+-- "Outside Setup, Get Registers sends 0 for 0x02 and 0x03": a place read without the password, or with it.
+unfoldable pub firstSeen : Seen → ℕ
+firstSeen Hidden = 0
+firstSeen (Shown w) = w .0
+
+unfoldable pub secondSeen : Seen → ℕ
+secondSeen Hidden = 0
+secondSeen (Shown w) = w .1
+
+-- Past 0xFF there is nothing, which reads as 0.
+unfoldable pub readAt : List ℕ → Seen → ℕ → ℕ
+readAt all seen place =
+    if eqb place firstPlace then firstSeen seen
+    else if eqb place secondPlace then secondSeen seen
+    else if ltb place size then getD all place 0
+    else 0
+
+-- n registers from a place on.
+unfoldable pub rangeOf : List ℕ → Seen → ℕ → ℕ → List ℕ
+rangeOf all seen place zero = []
+rangeOf all seen place (suc n) = readAt all seen place ∷ rangeOf all seen (place + 1) n
+
+-- "Link numbers 1 to 254 are valid."
+unfoldable pub valid : ℕ → Bool
+valid link = ltb 0 link && ltb link 255
+
+-- "The matching component is the first of the sixteen whose link equals the destination; 0 and 255 never match."
+unfoldable pub seek : List ℕ → ℕ → ℕ → ℕ → Found
+seek all link i zero = Nowhere
+seek all link i (suc n) = if eqb (linkIn all i) link then At i else seek all link (i + 1) n
+
+unfoldable pub found : List ℕ → ℕ → Found
+found all link = if valid link then seek all link 0 components else Nowhere
+
+-- Component i is the first of the sixteen with this link; none of the sixteen has it.
+abbrev pub FirstWith : List ℕ → ℕ → ℕ → Type 0
+FirstWith all link i = (i < components) × ((linkIn all i ≡ link) × ((j : ℕ) → j < i → linkIn all j ≡ link → ⊥))
+
+abbrev pub NoneWith : List ℕ → ℕ → Type 0
+NoneWith all link = (j : ℕ) → j < components → linkIn all j ≡ link → ⊥

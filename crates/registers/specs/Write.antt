@@ -1,0 +1,113 @@
+-- All that may be written, and the one definition that writes it.
+use mathlib.Core.Bool.{Bool, false, _&&_, _||_}
+use mathlib.Core.List.{List, [], _∷_}
+use Prim.Native.Nat.{ℕ, zero, suc, _+_, _-_, _<_}
+use lib.Dec.{ltb, leb, eqb}
+use lib.ListN.{length, getD, set}
+use Rattle.words.specs.Words.{if_then_else_}
+use Rattle.vault.specs.Job.{Byte, kept, put, Change, change}
+use Rattle.registers.specs.Places.{size, firstPlace, secondPlace, secret, levelPlace, savedPlace, counterPlace}
+use Rattle.registers.specs.declared.write.Write.{Write}
+use Rattle.registers.specs.declared.write.Write.the-variants.{Nothing, Count, Save, Preset, Factory, Values}
+
+-- "counters stop at 255"
+unfoldable pub counted : ℕ → ℕ
+counted n = if ltb n 255 then n + 1 else n
+
+-- "Entering Factory Default sets 0x00 to 255, 0x01 to 1, 0x02-0x03 to 0x12 0x34, 0x10-0x3F to 0, 0x7A-0x81 to 100 255 100 0 0 255 0 0,
+-- 0x8B to 0x09, 0x8D to 0x13, the rest of 0x40-0xBF to 255; other registers stay."
+abbrev pub factoryActions : List ℕ
+factoryActions = 100 ∷ 255 ∷ 100 ∷ 0 ∷ 0 ∷ 255 ∷ 0 ∷ 0 ∷ []
+
+-- From a place to another, both included.
+abbrev pub within : ℕ → ℕ → ℕ → Bool
+within first place last = leb first place && ltb place (last + 1)
+
+unfoldable pub factoryAt : ℕ → ℕ → ℕ
+factoryAt place old =
+    if eqb place 0x00 then 255
+    else if eqb place 0x01 then 1
+    else if eqb place 0x02 then 0x12
+    else if eqb place 0x03 then 0x34
+    else if within 0x10 place 0x3F then 0
+    else if within 0x7A place 0x81 then getD factoryActions (place - 0x7A) 0
+    else if eqb place 0x8B then 0x09
+    else if eqb place 0x8D then 0x13
+    else if within 0x40 place 0xBF then 255
+    else old
+
+-- One byte of the array. What belongs to 0x02 and 0x03 goes to the password, and past 0xFF there is nothing to write to.
+unfoldable pub stored : ℕ → ℕ → List ℕ → List ℕ
+stored place value all = if secret place then all else if ltb place size then set all place value else all
+
+-- The factory values of the first n places.
+unfoldable pub factoryBy : ℕ → List ℕ → List ℕ
+factoryBy zero all = all
+factoryBy (suc n) all = stored n (factoryAt n (getD (factoryBy n all) n 0)) (factoryBy n all)
+
+-- The first n of the values, from a place on.
+unfoldable pub valuesBy : ℕ → ℕ → List ℕ → List ℕ → List ℕ
+valuesBy zero first values all = all
+valuesBy (suc n) first values all = stored (first + n) (getD values n 0) (valuesBy n first values all)
+
+-- The registers after a write. "Entering Setup adds one to 0xFA." "Start and restart: one more in 0xFC." "Every 480th tick the percent goes
+-- to 0xF9." "Store Preset (percent into its level)." "Entering Factory Default sets .." "Set Registers (first, 1 to 16 values)."
+unfoldable pub applied : Write → List ℕ → List ℕ → List ℕ
+applied Nothing values all = all
+applied (Count counter) values all = stored (counterPlace counter) (counted (getD all (counterPlace counter) 0)) all
+applied (Save percent) values all = stored savedPlace (percent .0) all
+applied (Preset component percent) values all = stored (levelPlace component) (percent .0) all
+applied Factory values all = factoryBy size all
+applied (Values first) values all = valuesBy (length values) first values all
+
+-- What the same write does to the password's two bytes.
+unfoldable pub byteOf : ℕ → ℕ → List ℕ → Byte
+byteOf place first values =
+    if ltb place first then kept
+    else if ltb (place - first) (length values) then put (getD values (place - first) 0)
+    else kept
+
+unfoldable pub changeAt : Write → List ℕ → ℕ → Byte
+changeAt Nothing values place = kept
+changeAt (Count counter) values place = kept
+changeAt (Save percent) values place = kept
+changeAt (Preset component percent) values place = kept
+changeAt Factory values place = put (factoryAt place 0)
+changeAt (Values first) values place = byteOf place first values
+
+unfoldable pub changeOf : Write → List ℕ → Change
+changeOf write values = change (changeAt write values firstPlace) (changeAt write values secondPlace)
+
+-- Which places of the 256 bytes a write of so many values sets, the password's among them, and the byte that it sets there.
+unfoldable pub sets : Write → ℕ → ℕ → Bool
+sets Nothing count place = false
+sets (Count counter) count place = eqb place (counterPlace counter)
+sets (Save percent) count place = eqb place savedPlace
+sets (Preset component percent) count place = eqb place (levelPlace component)
+sets Factory count place = leb place 0x03 || within 0x10 place 0xBF
+sets (Values first) count place = leb first place && ltb place (first + count)
+
+unfoldable pub byteSet : Write → List ℕ → ℕ → ℕ → ℕ
+byteSet Nothing values place old = old
+byteSet (Count counter) values place old = counted old
+byteSet (Save percent) values place old = percent .0
+byteSet (Preset component percent) values place old = percent .0
+byteSet Factory values place old = factoryAt place old
+byteSet (Values first) values place old = getD values (place - first) 0
+
+-- The byte of a place after a write, from the one before it.
+unfoldable pub byteAfter : Write → List ℕ → ℕ → ℕ → ℕ
+byteAfter write values place old = if sets write (length values) place then byteSet write values place old else old
+
+-- The same of the array without the password: its two places are never touched.
+unfoldable pub touches : Write → ℕ → ℕ → Bool
+touches write count place = if secret place then false else sets write count place
+
+-- The percents that a write holds are bytes.
+abbrev pub PercentByte : Write → Type 0
+PercentByte Nothing = Unit {0}
+PercentByte (Count counter) = Unit {0}
+PercentByte (Save percent) = percent .0 < 256
+PercentByte (Preset component percent) = percent .0 < 256
+PercentByte Factory = Unit {0}
+PercentByte (Values first) = Unit {0}
