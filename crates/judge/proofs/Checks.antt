@@ -8,11 +8,10 @@ use native.Mathlib.Omega.{arith}
 use borrow.Author.Tests.{ltb-true, leb-true, eqb-true, eqb-false, lt-ltb, le-leb}
 use lib.Dec.{ltb, leb, eqb}
 use lib.ListN.{length, getD}
-use Rattle.words.proofs.Laws.{tests, cases}
+use Rattle.words.proofs.Laws.{cases, neither, tests}
 use Rattle.vault.specs.Vault.{inSetup}
 use Rattle.vault.specs.declared.Mode.{Mode}
 use Rattle.vault.specs.declared.Mode.the-variants.{Normal, Setup, Factory}
-use Rattle.vault.proofs.Laws.{neither}
 use Rattle.dimmer.specs.Dimmer.{optionsOf}
 use Rattle.packet.specs.declared.Header.{Header}
 use Rattle.registers.specs.Places.{networkIn, unitIn, dimmingIn}

@@ -1,12 +1,12 @@
 -- What holds of every paddle, of any number: many ticks at once, the wait for a gesture, presses by their length.
-use mathlib.Core.Bool.{Bool, true, false, true≢false, _||_, or-true, and-false, and-not-self}
+use mathlib.Core.Bool.{Bool, true, false, _||_, or-true, and-false, and-not-self}
 use mathlib.Core.Path.{_≡_, refl, ap, sym, _∙_}
 use Prim.Native.Nat.{ℕ, zero, suc, _-_, _<_, _≤_, min, max}
 use native.Mathlib.Omega.{arith}
 use lib.Dec.{ltb, leb, eqb}
 use borrow.Author.Tests.{lt-ltb, le-ltb, le-leb, lt-leb, eq-eqb, ne-eqb, eqb-true, ltb-true}
 use Rattle.words.specs.Words.{if_then_else_}
-use Rattle.words.proofs.Laws.{both, cases, two-ways, three-ways}
+use Rattle.words.proofs.Laws.{both, cases, neither, three-ways, two-ways}
 use Rattle.timers.specs.Timers.{less, lessBy}
 use Rattle.timers.proofs.Laws.{less-none, less-more}
 use Rattle.paddle.specs.declared.Contact.{Contact}
@@ -203,10 +203,6 @@ unfolding released gestureUp goesUp
 released-under c p e = simp (e, and-false (down p)) (refl, refl)
 
 -- A paddle is up where neither contact is down.
-neither : (l s : Bool) → (l || s) ≡ false → (l ≡ false) × (s ≡ false)
-neither true s e = absurd (true≢false e)
-neither false s e = (refl, e)
-
 pub up-raised : (p : Paddle) → down p ≡ false → p ≡ raised (p .hold) (p .gap) (p .taps)
 unfolding down
 up-raised p e = let n = neither (p .local) (p .slave) e in λ i. paddle (n .0 i) (n .1 i) (p .hold) (p .gap) (p .taps)

@@ -11,9 +11,8 @@ use lib.ListN.{length, getD, set, length-set, List·getD-eq-default}
 use lib.Seq.{ext-getD, getD-set-other}
 use borrow.Author.Tests.{eqb-true, eqb-false, eq-eqb, ne-eqb, lt-ltb, le-ltb}
 use Rattle.words.specs.Words.{Bytes}
-use Rattle.words.proofs.Laws.{both, cases, two-ways}
+use Rattle.words.proofs.Laws.{both, cases, neither, two-ways}
 use Rattle.vault.specs.declared.Password.{Password}
-use Rattle.vault.proofs.Laws.{neither}
 use Rattle.registers.specs.Places.{size, firstPlace, secondPlace, secret}
 use Rattle.registers.specs.Registers.{passwordIn, apart, imageOf, Dead, takenOf, afterTaking, Took, firstSeen, secondSeen, readAt, rangeOf}
 use Rattle.registers.specs.declared.Seen.{Seen}

@@ -9,13 +9,12 @@ use lib.Dec.{eqb, ltb, leb}
 use lib.ListN.{length, getD, length-set, List·getD-eq-default}
 use lib.Seq.{getD-set-same, getD-set-other}
 use borrow.Author.Tests.{eqb-true, eqb-false, ne-eqb, lt-ltb, le-ltb, le-leb, lt-leb, ltb-false, leb-false}
-use Rattle.words.proofs.Laws.{both, cases, two-ways}
+use Rattle.words.proofs.Laws.{both, cases, neither, two-ways}
 use Rattle.units.specs.declared.Percent.{Percent}
 use Rattle.vault.specs.Job.{became, change, changed, kept, nothing}
 use Rattle.vault.specs.Product.{Whole}
 use Rattle.vault.specs.Vault.{password}
 use Rattle.vault.specs.declared.Password.{Password}
-use Rattle.vault.proofs.Laws.{neither}
 use Rattle.registers.specs.Places.{size, firstPlace, secondPlace, secret, componentIn, counterPlace, levelPlace, savedIn, savedPlace}
 use Rattle.registers.specs.Registers.{Dead, imageOf, passwordIn}
 use Rattle.registers.specs.Write.{applied, byteAfter, byteOf, byteSet, changeAt, changeOf, counted, factoryAt}

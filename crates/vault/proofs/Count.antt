@@ -7,11 +7,11 @@ use native.Mathlib.Omega.{arith}
 use borrow.Author.Tests.{eqb-false, eqb-true, le-ltb, lt-ltb, ltb-false, ltb-true}
 use lib.Dec.{eqb, ltb}
 use lib.ListN.{length, length-append}
-use Rattle.words.proofs.Laws.{both, cases}
+use Rattle.words.proofs.Laws.{both, cases, neither}
 use Rattle.vault.specs.Guesses.{NoRepeats, Untried, all, among, distinct, row, without}
 use Rattle.vault.specs.Vault.{matches, password}
 use Rattle.vault.specs.declared.Password.{Password}
-use Rattle.vault.proofs.Laws.{matches-equal, matches-turned, neither}
+use Rattle.vault.proofs.Laws.{matches-equal, matches-turned}
 
 -- ---- tried or not
 

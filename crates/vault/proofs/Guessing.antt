@@ -5,6 +5,7 @@ use mathlib.Core.Logic.{_⊎_, inl, inr}
 use mathlib.Core.Path.{_≡_, refl, sym, ap, _∙_, subst}
 use Prim.Native.Nat.{ℕ}
 use lib.Dec.{eqb}
+use Rattle.words.proofs.Laws.{neither}
 use Rattle.vault.specs.Guesses.{Untried, among}
 use Rattle.vault.specs.Job.{Byte, Job, became, change, changed, compare, done, guessed, kept, put, reveal, settled}
 use Rattle.vault.specs.Machine.{gathered}
@@ -12,7 +13,7 @@ use Rattle.vault.specs.Product.{Careful, Product, Proper, Site, StaysOut
 use Rattle.vault.specs.Vault.{inSetup, matches}
 use Rattle.vault.specs.declared.Password.{Password}
 use Rattle.vault.proofs.Count.{among-append}
-use Rattle.vault.proofs.Laws.{chosen, neither}
+use Rattle.vault.proofs.Laws.{chosen}
 use Rattle.vault.proofs.Run.{AllAllowed, Veil}
 use Rattle.vault.proofs.Step.{Same, its-own-outside, same-way, was-wrong}
 

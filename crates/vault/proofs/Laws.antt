@@ -1,5 +1,5 @@
 -- Laws of the comparison, of a change of the password, and of how an event is answered, job by job.
-use mathlib.Core.Bool.{Bool, true, false, cond, _||_, true≢false, and-eq-true-iff}
+use mathlib.Core.Bool.{Bool, true, false, cond, and-eq-true-iff}
 use mathlib.Core.Path.{_≡_, refl, sym, ap, ap₂, _∙_, subst}
 use borrow.Author.Tests.{eqb-true, eq-eqb}
 use lib.Dec.{eqb}
@@ -7,11 +7,6 @@ use Rattle.vault.specs.Job.{Change, Outcome, Switch, answered, became, c
 use Rattle.vault.specs.Product.{Product, respond}
 use Rattle.vault.specs.Vault.{matches, password}
 use Rattle.vault.specs.declared.Password.{Password}
-
--- Neither of two tests holds.
-pub neither : (a b : Bool) → (a || b) ≡ false → (a ≡ false) × (b ≡ false)
-neither true b h = absurd (true≢false h)
-neither false b h = (refl, h)
 
 -- What holds of two pairs holds of the chosen pair.
 pub chosen : {A : Type 0} (R : A → A → Type 0) (b : Bool) {x y u v : A} → R x y → R u v → R (cond b x u) (cond b y v)

@@ -4,13 +4,14 @@ use mathlib.Core.Path.{_≡_, refl, sym, ap, _∙_, subst}
 use Prim.Native.Nat.{ℕ}
 use borrow.Author.Tests.{eq-eqb}
 use lib.Dec.{eqb}
+use Rattle.words.proofs.Laws.{neither}
 use Rattle.vault.specs.Guesses.{Untried, among}
 use Rattle.vault.specs.Job.{Answered, Job, Outcome, SameWay, Switch, Unrevealed, compare, done, guessed, reveal, settled}
 use Rattle.vault.specs.Product.{Careful, Product, Proper, Site, alone, flats, respond}
 use Rattle.vault.specs.Promises.{SecretAtOnce}
 use Rattle.vault.specs.Vault.{inSetup, matches}
 use Rattle.vault.specs.declared.Password.{Password}
-use Rattle.vault.proofs.Laws.{chosen, neither, respond-right}
+use Rattle.vault.proofs.Laws.{chosen, respond-right}
 
 -- Two answers alike in all but the password.
 abbrev pub Same : {Plain Shown : Type 0} → Answered Plain Shown → Answered Plain Shown → Type 0

@@ -1,5 +1,5 @@
 -- Laws that the proofs of every crate cite.
-use mathlib.Core.Bool.{Bool, true, false, cond}
+use mathlib.Core.Bool.{Bool, true, false, cond, _||_, true≢false}
 use mathlib.Core.Path.{_≡_, refl, sym, _∙_}
 use Prim.Native.Nat.{ℕ, _<_, _≤_}
 use native.Mathlib.Omega.{arith}
@@ -18,6 +18,11 @@ both P false p q = q
 pub cases {ℓ κ} : {A : Type ℓ} (P : A → Type κ) (b : Bool) {x y : A} → (b ≡ true → P x) → (b ≡ false → P y) → P (cond b x y)
 cases P true p q = p refl
 cases P false p q = q refl
+
+-- Neither of two tests holds.
+pub neither : (a b : Bool) → (a || b) ≡ false → (a ≡ false) × (b ≡ false)
+neither true b h = absurd (true≢false h)
+neither false b h = (refl, h)
 
 -- No two outcomes: a contract that is an equation with a definition is met by one answer only.
 pub one-outcome {ℓ} : {A : Type ℓ} {meant : A} (r s : A) → r ≡ meant → s ≡ meant → r ≡ s
