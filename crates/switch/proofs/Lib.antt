@@ -1,0 +1,6 @@
+pub mod Laws
+pub mod Turning
+pub mod Laying
+pub mod Finishing
+pub mod Waking
+pub mod Receiving

@@ -1,0 +1,29 @@
+use borrow.Author.Needs.{needs}
+use Rattle.words.proofs.Laws.{tests}
+use Rattle.switch.specs.Events.{hueOf}
+use Rattle.switch.proofs.receive.hue_of.Statement.{statement}
+use Rattle.switch.proofs.receive.hue_of.Tie as tie
+
+enum-told : tie.Need-enum-told
+enum-told c = search needs
+
+enum-told-2 : tie.Need-enum-told-2
+enum-told-2 c = search needs
+
+enum-told-3 : tie.Need-enum-told-3
+enum-told-3 c = search needs
+
+returns : tie.Need-returns
+unfolding hueOf
+returns c = search (tests, c .enum-told .given .1)
+
+returns-2 : tie.Need-returns-2
+unfolding hueOf
+returns-2 c = search (tests, c .enum-told2 .given .1)
+
+returns-3 : tie.Need-returns-3
+unfolding hueOf
+returns-3 c = search (tests, c .enum-told3 .given .1)
+
+pub hue-of-spec : {M : Type 1} → statement M
+hue-of-spec = tie.close (tie.spec enum-told enum-told-2 enum-told-3 returns returns-2 returns-3)

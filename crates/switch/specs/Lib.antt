@@ -1,0 +1,5 @@
+pub mod Switch
+pub mod Paddles
+pub mod Events
+pub mod Respond
+pub mod Code
