@@ -1,0 +1,79 @@
+-- The clock does not cut the deck, shown.
+use mathlib.Core.List.{List, [], _∷_, map}
+use mathlib.Core.Path.{_≡_, refl, sym, ap, ap₂, _∙_, subst}
+use Prim.Native.Nat.{ℕ, zero, suc, _<_, _≤_, _%_}
+use native.Mathlib.Omega.{arith}
+use borrow.Author.Tests.{le-ltb}
+use lib.ListN.{getD, length, length-map}
+use Rattle.vault.specs.Job.{Switch, became, changed, settled, switch}
+use Rattle.vault.specs.Machine.{run}
+use Rattle.vault.specs.Product
+use Rattle.vault.specs.declared.Password.{Password}
+use Rattle.paddle.specs.Paddle.{fresh, next}
+use Rattle.paddle.specs.Promises.{Same, raised, ticks}
+use Rattle.paddle.specs.declared.Paddle.{Paddle}
+use Rattle.paddle.proofs.Alike.{alike-same, rested}
+use Rattle.registers.specs.Registers.{apart, imageOf, passwordIn}
+use Rattle.registers.proofs.Laws.{password-back, registers-back}
+use Rattle.switch.specs.Switch.{Event, Plain, event, restart, tick}
+use Rattle.switch.specs.Events.{doing, finished, job, paddleOf, restarting, ticking, woken}
+use Rattle.switch.specs.Respond.{respond, startedFrom}
+use Rattle.promises.specs.Bounds.{Sane}
+use Rattle.promises.specs.Cases.{runOf, ticksOf, with48}
+use Rattle.promises.specs.Clock.{Clock, RestartForgets, RestartForgetsForGood, RestartIsStart, TicksBeforeAPress}
+use Rattle.promises.specs.Demand3.{imageIn}
+
+restarted : (s : Switch Plain) (room : ℕ) → 48 ≤ room → respond s (event room restart) .next ≡ switch (woken (s .plain .registers)) (s .password)
+unfolding Product.respond job doing restarting settled changed became
+restarted s room enough = rw (le-ltb room 48 enough)
+
+restart-is-start : RestartIsStart
+unfolding startedFrom
+restart-is-start s room enough sane =
+    restarted s room enough
+    ∙ ap₂ (λ (all : List ℕ) (w : Password). switch (woken all) w)
+    (sym (registers-back (s .plain .registers) (s .password) (sane .dead))) (sym (password-back (s .plain .registers) (s .password) (sane .registers)))
+
+restart-forgets : RestartForgets
+restart-forgets s t room other a b sane sane′ same =
+    restart-is-start s room a sane ∙ ap startedFrom same ∙ sym (restart-is-start t other b sane′)
+
+restart-forgets-for-good : RestartForgetsForGood
+restart-forgets-for-good s t room other a b sane sane′ same es e =
+    ap (λ (u : Switch Plain). respond (runOf u es) e) (restart-forgets s t room other a b sane sane′ same)
+
+-- The paddles of a switch tick as the recogniser does.
+paddles-ticked : (s : Switch Plain) → respond s (with48 tick) .next .plain .paddles ≡ map next (s .plain .paddles)
+unfolding Product.respond job doing ticking finished settled
+paddles-ticked s = refl
+
+next-at : (i : ℕ) (ps : List Paddle) → i < length ps → getD (map next ps) i fresh ≡ next (getD ps i fresh)
+next-at i [] h = absurd (omega arith)
+next-at zero (p ∷ ps) h = refl
+next-at (suc i) (p ∷ ps) h = next-at i ps (omega arith)
+
+ticks-first : (n : ℕ) (p : Paddle) → ticks n (next p) ≡ ticks (suc n) p
+unfolding ticks
+ticks-first zero p = refl
+ticks-first (suc n) p = ap next (ticks-first n p)
+
+paddle-ticks : (n : ℕ) (s : Switch Plain) (i : ℕ) → i < length (s .plain .paddles) → getD (runOf s (ticksOf n) .plain .paddles) i fresh ≡ ticks n (getD (s .plain .paddles) i fresh)
+unfolding run ticksOf ticks
+paddle-ticks zero s i h = refl
+paddle-ticks (suc n) s i h =
+    let now = respond s (with48 tick) .next in
+    let two = paddles-ticked s in
+    paddle-ticks n now i (rw (two, length-map (s .plain .paddles) next) h)
+    ∙ ap (ticks n) (ap (λ (ps : List Paddle). getD ps i fresh) two ∙ next-at i (s .plain .paddles) h)
+    ∙ ticks-first n (getD (s .plain .paddles) i fresh)
+
+ticks-before-a-press : TicksBeforeAPress
+unfolding paddleOf
+ticks-before-a-press s contact n hold gap sane rests =
+    subst (λ (p : Paddle). Same p fresh)
+    (sym (paddle-ticks n s (contact % 2) (omega (arith, sane .paddles)) ∙ ap (ticks n) rests))
+    (alike-same (ticks n (raised hold gap 0)) fresh (rested n hold gap))
+
+-- All that is promised of the clock.
+pub clock : Clock
+clock = record { restart = restart-is-start; forgets = restart-forgets; for-good = restart-forgets-for-good; ticks = ticks-before-a-press }

@@ -1,0 +1,12 @@
+pub mod Careful
+pub mod Demand3
+pub mod Outcomes
+pub mod Bounds
+pub mod Jobs
+pub mod Numbers
+pub mod Cases
+pub mod Rivals
+pub mod Opening
+pub mod Alters
+pub mod Presets
+pub mod Clock

@@ -1,0 +1,193 @@
+-- What can alter a register: the writes of every event, in every mode, and the byte that each of the 256 places holds after them.
+use mathlib.Core.Bool.{true, false}
+use mathlib.Core.List.{List, [], _∷_, _++_}
+use mathlib.Core.Logic.{_⊎_}
+use mathlib.Core.Path.{_≡_}
+use Prim.Native.Nat.{ℕ, zero, suc, _+_, _-_, _≤_, _<_}
+use lib.Dec.{eqb, ltb}
+use lib.ListN.{length, getD, drop}
+use Rattle.words.specs.Words.{if_then_else_}
+use Rattle.units.specs.Units.{percentOf}
+use Rattle.units.specs.declared.Percent.{Percent}
+use Rattle.units.specs.declared.Step.{Step}
+use Rattle.vault.specs.Job.{Switch}
+use Rattle.vault.specs.Vault.{matches}
+use Rattle.vault.specs.declared.Mode.{Mode}
+use Rattle.vault.specs.declared.Mode.the-variants.{Normal, Setup}
+use Rattle.vault.specs.declared.Password.{Password}
+use Rattle.packet.specs.Promises.{Sound}
+use Rattle.packet.specs.Reading.{messageOf, readOf}
+use Rattle.packet.specs.declared.Frame.{Frame}
+use Rattle.packet.specs.declared.Frame.the-variants as frame
+use Rattle.packet.specs.declared.Header.{Header}
+use Rattle.paddle.specs.Paddle.{fresh, gesture}
+use Rattle.paddle.specs.declared.Gesture.the-variants.{Taps}
+use Rattle.paddle.specs.declared.Paddle.{Paddle}
+use Rattle.registers.specs.Places.{levelPlace, secret, size}
+use Rattle.registers.specs.Write.{byteAfter, factoryAt, sets}
+use Rattle.registers.specs.declared.places.Counter.the-variants.{Restarts, Setups}
+use Rattle.registers.specs.declared.write.Write.{Write}
+use Rattle.registers.specs.declared.write.Write.the-variants.{Nothing, Count, Save, Preset, Factory, Values}
+use Rattle.judge.specs.Judge.{judged}
+use Rattle.judge.specs.Promises.{Accepted}
+use Rattle.judge.specs.declared.Order.{Order}
+use Rattle.judge.specs.declared.Order.the-variants as order
+use Rattle.acts.specs.Gestures.{leads, writes}
+use Rattle.switch.specs.Switch.{Deed, Event, Plain, press, receive, release, restart, tick}
+use Rattle.switch.specs.Respond.{respond}
+use Rattle.promises.specs.Bounds.{Sane}
+use Rattle.promises.specs.Demand3.{imageIn}
+
+-- A write, and the values that it brings: only Set Registers brings any.
+pub record Writing : Type 0 where
+  pub write : Write
+  pub values : List ℕ
+
+abbrev pub writing : Write → List ℕ → Writing
+writing write values = record { write = write; values = values }
+
+abbrev pub alone : Write → Writing
+alone write = writing write []
+
+-- "top paddle, bottom paddle": what each gesture of a tick writes in the mode that it finds; the next one finds the mode that it leaves.
+-- `writes` has the modes: five taps in Normal count in 0xFA, ten taps in Setup set the factory values, and nothing else writes.
+unfoldable pub byPaddles : Mode → List Paddle → List Writing
+byPaddles mode [] = []
+byPaddles mode (p ∷ ps) = alone (writes mode (gesture p)) ∷ byPaddles (leads mode (gesture p)) ps
+
+-- "every 480th tick since start or restart the percent goes to 0xF9": of the level that the tick leaves.
+unfoldable pub bySaving : ℕ → Step → Write
+bySaving save level = if eqb save 0 then Save (percentOf level) else Nothing
+
+-- A packet that is accepted: Start Setup counts in 0xFA where its guess is right, Set Registers writes its values, Store Preset the percent.
+unfoldable pub byOrder : Switch Plain → Order → List ℕ → List Writing
+byOrder s (order.Refused n) values = []
+byOrder s (order.Open guess) values = if matches (s .password) guess then alone (Count Setups) ∷ [] else []
+byOrder s order.Close values = []
+byOrder s (order.Get first count) values = []
+byOrder s (order.Set first) values = writing (Values first) values ∷ []
+byOrder s (order.Activate i) values = []
+byOrder s (order.Deactivate i) values = []
+byOrder s (order.Goto level rate) values = []
+byOrder s order.Stop values = []
+byOrder s (order.Blink value) values = []
+byOrder s order.Report values = []
+byOrder s (order.Store i) values = alone (Preset i (percentOf (s .plain .core .dimmer .level))) ∷ []
+
+unfoldable pub byFrame : Switch Plain → Frame → List ℕ → List Writing
+byFrame s (frame.Read h) message = byOrder s (judged (s .plain .registers) (s .plain .core .mode) h message) (drop 2 message)
+byFrame s frame.Short message = []
+byFrame s frame.Long message = []
+byFrame s frame.Length message = []
+byFrame s frame.Sum message = []
+byFrame s frame.Reserved message = []
+
+-- What a deed writes, in order, where it leaves this level.
+unfoldable pub byDeed : Switch Plain → Step → Deed → List Writing
+byDeed s level (press contact) = []
+byDeed s level (release contact) = []
+byDeed s level tick = byPaddles (s .plain .core .mode) (s .plain .paddles) ++ (alone (bySaving (s .plain .core .save) level) ∷ [])
+byDeed s level (receive bytes) = byFrame s (readOf bytes) (messageOf bytes)
+byDeed s level restart = alone (Count Restarts) ∷ []
+
+-- All that an event writes, in order.
+unfoldable pub writesOf : Switch Plain → Event → List Writing
+writesOf s e = if ltb (e .room) 48 then [] else byDeed s (respond s e .next .plain .core .dimmer .level) (e .deed)
+
+-- The byte of a place after writes, one after the other.
+unfoldable pub bytesAfter : List Writing → ℕ → ℕ → ℕ
+bytesAfter [] place old = old
+bytesAfter (w ∷ ws) place old = bytesAfter ws place (byteAfter (w .write) (w .values) place old)
+
+-- The byte that a switch holds at a place, the password's among them.
+abbrev pub byteAt : Switch Plain → ℕ → ℕ
+byteAt s place = getD (imageIn s) place 0
+
+-- All 256 registers after any event, in any mode, as one equation.
+abbrev pub OneEquation : Type 0
+OneEquation = (s : Switch Plain) (e : Event) (place : ℕ) → Sane (s .plain) → place < size → byteAt (respond s e .next) place ≡ bytesAfter (writesOf s e) place (byteAt s place)
+
+abbrev pub EachWrite : (Writing → Type 0) → List Writing → Type 0
+EachWrite P [] = Unit {0}
+EachWrite P (w ∷ ws) = P w × EachWrite P ws
+
+-- A place that no write of the event sets keeps its byte.
+abbrev pub Misses : ℕ → Writing → Type 0
+Misses place w = sets (w .write) (length (w .values)) place ≡ false
+
+abbrev pub OthersStay : Type 0
+OthersStay = (s : Switch Plain) (e : Event) (place : ℕ) → Sane (s .plain) → place < size → EachWrite (Misses place) (writesOf s e) → byteAt (respond s e .next) place ≡ byteAt s place
+
+-- The mode that the gesture of paddle i finds at a tick.
+unfoldable pub modeFor : Mode → List Paddle → ℕ → Mode
+modeFor mode [] i = mode
+modeFor mode (p ∷ ps) zero = mode
+modeFor mode (p ∷ ps) (suc i) = modeFor (leads mode (gesture p)) ps i
+
+-- At a tick, paddle i (0 the top, 1 the bottom) closes a run of so many taps, in this mode.
+pub record Closes (s : Switch Plain) (i : ℕ) (mode : Mode) (count : ℕ) : Type 0 where
+  pub which : i < 2
+  pub taps : gesture (getD (s .plain .paddles) i fresh) ≡ Taps count
+  pub finds : modeFor (s .plain .core .mode) (s .plain .paddles) i ≡ mode
+
+-- A packet that is sound and asks for this order, which is accepted.
+pub record Asks (s : Switch Plain) (bytes : List ℕ) (o : Order) : Type 0 where
+  pub header : Header
+  pub sound : Sound bytes header
+  pub accepted : Accepted o (s .plain .registers) (s .plain .core .mode) header (messageOf bytes)
+
+-- The table: each write, and the one thing that can cause it.
+pub data Cause (s : Switch Plain) : Deed → Writing → Type 0 where
+  no-write : Cause s tick (alone Nothing)
+  restarted : Cause s restart (alone (Count Restarts))
+  saved : (percent : Percent) → s .plain .core .save ≡ 0 → Cause s tick (alone (Save percent))
+  five-taps : (i : ℕ) → Closes s i Normal 5 → Cause s tick (alone (Count Setups))
+  ten-taps : (i : ℕ) → Closes s i Setup 10 → Cause s tick (alone Factory)
+  right-guess : (bytes : List ℕ) (guess : Password) → Asks s bytes (order.Open guess) → s .password ≡ guess → Cause s (receive bytes) (alone (Count Setups))
+  stored : (bytes : List ℕ) (i : ℕ) → Asks s bytes (order.Store i) → Cause s (receive bytes) (alone (Preset i (percentOf (s .plain .core .dimmer .level))))
+  set : (bytes : List ℕ) (first : ℕ) → Asks s bytes (order.Set first) → Cause s (receive bytes) (writing (Values first) (drop 2 (messageOf bytes)))
+
+abbrev pub OnlyCauses : Type 0
+OnlyCauses = (s : Switch Plain) (e : Event) → Sane (s .plain) → EachWrite (Cause s (e .deed)) (writesOf s e)
+
+-- The three ways to another byte. A link Store Preset: the percent, into the level byte of its own matching component (`accepted` says by link,
+-- and which component).
+pub record StoredAt (s : Switch Plain) (d : Deed) (place now : ℕ) : Type 0 where
+  pub bytes : List ℕ
+  pub component : ℕ
+  pub packet : d ≡ receive bytes
+  pub asks : Asks s bytes (order.Store component)
+  pub at : place ≡ levelPlace component
+  pub byte : now ≡ percentOf (s .plain .core .dimmer .level) .0
+
+-- Set Registers over a place. It is accepted in Setup alone.
+pub record SetAt (s : Switch Plain) (d : Deed) (place now : ℕ) : Type 0 where
+  pub bytes : List ℕ
+  pub first : ℕ
+  pub packet : d ≡ receive bytes
+  pub asks : Asks s bytes (order.Set first)
+  pub mode : s .plain .core .mode ≡ Setup
+  pub least : first ≤ place
+  pub most : place < first + length (drop 2 (messageOf bytes))
+  pub byte : now ≡ getD (drop 2 (messageOf bytes)) (place - first) 0
+
+-- A tick that enters Factory Default: the factory value, whatever was there.
+pub record FactorySet (s : Switch Plain) (d : Deed) (place now : ℕ) : Type 0 where
+  pub paddle : ℕ
+  pub event : d ≡ tick
+  pub closes : Closes s paddle Setup 10
+  pub byte : (old : ℕ) → now ≡ factoryAt place old
+
+-- The two bytes of the password change by the last two alone.
+abbrev pub PasswordSafe : Type 0
+PasswordSafe =
+    (s : Switch Plain) (e : Event) (place : ℕ) → Sane (s .plain) → secret place ≡ true
+    → (byteAt (respond s e .next) place ≡ byteAt s place)
+    ⊎ (SetAt s (e .deed) place (byteAt (respond s e .next) place) ⊎ FactorySet s (e .deed) place (byteAt (respond s e .next) place))
+
+-- All that is promised of the registers.
+pub record Alters : Type 0 where
+  pub equation : OneEquation
+  pub others : OthersStay
+  pub causes : OnlyCauses
+  pub password : PasswordSafe

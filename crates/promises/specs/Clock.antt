@@ -1,0 +1,42 @@
+-- The clock does not cut the deck: what came before a restart, and the ticks before a first press, do not matter.
+use mathlib.Core.List.{List}
+use mathlib.Core.Path.{_≡_}
+use Prim.Native.Nat.{ℕ, _≤_}
+use Rattle.vault.specs.Job.{Switch}
+use Rattle.paddle.specs.Paddle.{fresh}
+use Rattle.paddle.specs.Promises.{Same, raised}
+use Rattle.switch.specs.Switch.{Event, Plain, event, restart}
+use Rattle.switch.specs.Events.{paddleAt}
+use Rattle.switch.specs.Respond.{respond, startedFrom}
+use Rattle.promises.specs.Bounds.{Sane}
+use Rattle.promises.specs.Cases.{paddleAfter, runOf, ticksOf}
+use Rattle.promises.specs.Demand3.{imageIn}
+
+-- "Start and restart": a restarted switch is the one that starts from its own image, the one more in 0xFC counted in both.
+abbrev pub RestartIsStart : Type 0
+RestartIsStart = (s : Switch Plain) (room : ℕ) → 48 ≤ room → Sane (s .plain) → respond s (event room restart) .next ≡ startedFrom (imageIn s)
+
+-- So two switches that hold the same 256 bytes are one and the same after a restart, whatever came before.
+abbrev pub RestartForgets : Type 0
+RestartForgets =
+    (s t : Switch Plain) (room other : ℕ) → 48 ≤ room → 48 ≤ other → Sane (s .plain) → Sane (t .plain) → imageIn s ≡ imageIn t
+    → respond s (event room restart) .next ≡ respond t (event other restart) .next
+
+-- And so is every event after it.
+abbrev pub RestartForgetsForGood : Type 0
+RestartForgetsForGood =
+    (s t : Switch Plain) (room other : ℕ) → 48 ≤ room → 48 ≤ other → Sane (s .plain) → Sane (t .plain) → imageIn s ≡ imageIn t
+    → (es : List Event) (e : Event)
+    → respond (runOf (respond s (event room restart) .next) es) e ≡ respond (runOf (respond t (event other restart) .next) es) e
+
+-- However many ticks pass before a press, no press, release or tick can tell a paddle that was up with no taps counted from one just started.
+abbrev pub TicksBeforeAPress : Type 0
+TicksBeforeAPress =
+    (s : Switch Plain) (contact n hold gap : ℕ) → Sane (s .plain) → paddleAt contact (s .plain .paddles) ≡ raised hold gap 0
+    → Same (paddleAfter s contact (ticksOf n)) fresh
+
+pub record Clock : Type 0 where
+  pub restart : RestartIsStart
+  pub forgets : RestartForgets
+  pub for-good : RestartForgetsForGood
+  pub ticks : TicksBeforeAPress

@@ -1,0 +1,92 @@
+-- Demand 3 of the letter: what two switches show that differ in the password alone.
+use mathlib.Core.List.{List, [], _∷_, map}
+use mathlib.Core.Path.{_≡_}
+use mathlib.Core.Bool.{false}
+use Prim.Native.Nat.{ℕ}
+use lib.ListN.{length, getD}
+use Rattle.vault.specs.Job.{Switch}
+use Rattle.vault.specs.Machine.{run, transcript}
+use Rattle.vault.specs.Product.{StaysOut, alone, machine}
+use Rattle.vault.specs.Promises.{KeepsItsPassword}
+use Rattle.vault.specs.Vault.{inSetup}
+use Rattle.registers.specs.Places.{size, secret}
+use Rattle.registers.specs.Registers.{Dead, imageOf}
+use Rattle.post.specs.Post.{placed}
+use Rattle.switch.specs.Switch.{Plain, Shown, Deed, Event, event}
+use Rattle.switch.specs.Respond.{startedFrom, wallSwitch}
+
+-- The 256 register bytes of a switch, the password among them.
+abbrev pub imageIn : Switch Plain → List ℕ
+imageIn s = imageOf (s .plain .registers) (s .password)
+
+-- The same bytes at every place but 0x02 and 0x03.
+abbrev pub SameOutside : List ℕ → List ℕ → Type 0
+SameOutside a b = (length a ≡ length b) × ((place : ℕ) → secret place ≡ false → getD a place 0 ≡ getD b place 0)
+
+-- "two switches alike in all but the password": mode, level, lamp, timers and paddles, and every register outside the two password bytes.
+pub record Alike (s t : Switch Plain) : Type 0 where
+  pub core : s .plain .core ≡ t .plain .core
+  pub paddles : s .plain .paddles ≡ t .plain .paddles
+  pub registers : SameOutside (imageIn s) (imageIn t)
+
+-- The password is held apart: the array's own bytes at its two places are 0, in every switch that was started.
+abbrev pub HeldApart : Switch Plain → Type 0
+HeldApart s = Dead (s .plain .registers)
+
+-- "neither in Setup Mode"
+abbrev pub Outside : Switch Plain → Type 0
+Outside s = inSetup (s .plain .core .mode) ≡ false
+
+-- An event with the buffer that is lent to it.
+pub record Lent : Type 0 where
+  pub buffer : List ℕ
+  pub deed : Deed
+
+abbrev pub eventOf : Lent → Event
+eventOf l = event (length (l .buffer)) (l .deed)
+
+abbrev pub events : List Lent → List Event
+events ls = map eventOf ls
+
+-- The lent buffers after the events, from what is shown at each.
+unfoldable pub filled : List Shown → List Lent → List (List ℕ)
+filled [] ls = []
+filled (x ∷ xs) [] = []
+filled (x ∷ xs) (l ∷ ls) = placed (x .sent) (l .buffer) ∷ filled xs ls
+
+-- What is seen of a switch over the events, and the switch after them.
+abbrev pub seenOf : Switch Plain → List Lent → List Shown
+seenOf s ls = transcript (machine wallSwitch) s (events ls)
+
+abbrev pub afterAll : Switch Plain → List Lent → Switch Plain
+afterAll s ls = run (machine wallSwitch) s (events ls)
+
+-- No event of the list leaves the switch in Setup. One tick can open Setup and leave it again, where the top paddle closes five taps and
+-- the bottom one two or ten: Setup then shows in neither answer, and that tick counts as any other.
+abbrev pub NeverOpens : Switch Plain → List Lent → Type 0
+NeverOpens s ls = StaysOut (alone wallSwitch) s (events ls)
+
+-- "their answers, packets, output and lamp are equal, and so is all they hold outside the two password bytes"; every lent byte is equal too.
+pub record SameToTheEye (s t : Switch Plain) (ls : List Lent) : Type 0 where
+  pub shown : seenOf s ls ≡ seenOf t ls
+  pub bytes : filled (seenOf s ls) ls ≡ filled (seenOf t ls) ls
+  pub holds : Alike (afterAll s ls) (afterAll t ls)
+
+-- "Take two switches alike in all but the password, neither in Setup Mode, and give both the same events, wrong guesses included. At each event
+-- before the first that puts either into Setup Mode .." The list is any stretch of events before that first one.
+abbrev pub OfTwoSwitches : Type 0
+OfTwoSwitches =
+    (s t : Switch Plain) (ls : List Lent) → HeldApart s → HeldApart t → Alike s t → Outside s → NeverOpens s ls → NeverOpens t ls
+    → SameToTheEye s t ls
+
+-- The same of two images of 256 bytes that differ in the password alone, both started: nothing else is asked of them.
+abbrev pub OfTwoImages : Type 0
+OfTwoImages =
+    (a b : List ℕ) (ls : List Lent) → length a ≡ size → SameOutside a b → NeverOpens (startedFrom a) ls → NeverOpens (startedFrom b) ls
+    → SameToTheEye (startedFrom a) (startedFrom b) ls
+
+-- Demand 3 of the full switch, with what follows from it: the guest who talks to one switch, or to many on one main, rules out at most the passwords he tried.
+pub record Demand3 : Type 0 where
+  pub switches : OfTwoSwitches
+  pub images : OfTwoImages
+  pub guest : KeepsItsPassword wallSwitch

@@ -1,0 +1,9 @@
+pub mod Demand3
+pub mod Bounds
+pub mod Numbers
+pub mod Cases
+pub mod Rivals
+pub mod Opening
+pub mod Alters
+pub mod Presets
+pub mod Clock

@@ -1,0 +1,136 @@
+-- "Given exactly when": the answer numbers 0 to 14, event by event, and what a refusal leaves.
+use mathlib.Core.Bool.{Bool, true, false, _&&_}
+use mathlib.Core.List.{List, []}
+use mathlib.Core.Logic.{_↔_, _⊎_}
+use mathlib.Core.Path.{_≡_}
+use Prim.Native.Nat.{ℕ, _≤_, _<_}
+use lib.Dec.{leb}
+use lib.ListN.{length}
+use Rattle.words.specs.Words.{if_then_else_}
+use Rattle.vault.specs.Job.{Switch, switch}
+use Rattle.lamp.specs.declared.Colour.the-variants.{Black}
+use Rattle.packet.specs.Promises.{Given, Sound}
+use Rattle.packet.specs.Reading.{messageOf}
+use Rattle.packet.specs.declared.Frame.the-variants.{Short, Long, Length, Sum, Reserved}
+use Rattle.packet.specs.declared.Header.{Header}
+use Rattle.paddle.specs.Promises.{touched}
+use Rattle.judge.specs.Promises.{Accepted, Refusal}
+use Rattle.judge.specs.declared.Order.the-variants as order
+use Rattle.vault.specs.declared.Password.{Password}
+use Rattle.post.specs.Post.{placed}
+use Rattle.registers.specs.Places.{size}
+use Rattle.switch.specs.Switch.{Deed, Event, Plain, answerOf, event, plain, press, receive, release, restart, tick}
+use Rattle.switch.specs.Events.{kindOf, paddleAt, signalled}
+use Rattle.switch.specs.Respond.{respond, startAnswer}
+
+-- The number that a switch answers to an event, and that a start answers.
+abbrev pub numberAt : Switch Plain → Event → ℕ
+numberAt s e = respond s e .shown .answer .number
+
+abbrev pub numberOfStart : List ℕ → ℕ
+numberOfStart image = startAnswer image .number
+
+-- The rows 4 to 14 for a received packet: the row's condition, and none of an earlier row. 4 to 8 are the reader's rows, 9 to 13 those of
+-- the judgement of a packet that passes them, and 14 is "Start Setup with a wrong password" that passes all of 4 to 13.
+pub data PacketRefused (s : Switch Plain) (bytes : List ℕ) : ℕ → Type 0 where
+  too-short : Given Short bytes → PacketRefused s bytes 4
+  too-long : Given Long bytes → PacketRefused s bytes 5
+  wrong-length : Given Length bytes → PacketRefused s bytes 6
+  wrong-sum : Given Sum bytes → PacketRefused s bytes 7
+  reserved-bit : Given Reserved bytes → PacketRefused s bytes 8
+  not-accepted : (h : Header) (n : ℕ) → Sound bytes h → Refusal (s .plain .registers) (s .plain .core .mode) h (messageOf bytes) n → PacketRefused s bytes n
+  wrong-password : (h : Header) (guess : Password) → Sound bytes h
+      → Accepted (order.Open guess) (s .plain .registers) (s .plain .core .mode) h (messageOf bytes)
+      → (s .password ≡ guess → ⊥) → PacketRefused s bytes 14
+
+-- "3: contact above 3"; ticks and restarts have no row of their own.
+abbrev pub DeedRefused : Switch Plain → Deed → ℕ → Type 0
+DeedRefused s (press contact) n = (n ≡ 3) × (3 < contact)
+DeedRefused s (release contact) n = (n ≡ 3) × (3 < contact)
+DeedRefused s tick n = ⊥
+DeedRefused s (receive bytes) n = PacketRefused s bytes n
+DeedRefused s restart n = ⊥
+
+-- The whole table: "2: buffer shorter than 48" comes first, and "0: done" is where no row applies.
+pub data Row (s : Switch Plain) (e : Event) : ℕ → Type 0 where
+  no-room : e .room < 48 → Row s e 2
+  refused : (n : ℕ) → 48 ≤ e .room → DeedRefused s (e .deed) n → Row s e n
+  done : 48 ≤ e .room → ((n : ℕ) → DeedRefused s (e .deed) n → ⊥) → Row s e 0
+
+-- "Given exactly when", for every event and every number.
+abbrev pub Exactly : Type 0
+Exactly = (s : Switch Plain) (e : Event) (n : ℕ) → (numberAt s e ≡ n) ↔ Row s e n
+
+-- A packet that passes 4 to 13 and is a Start Setup, and the guess in it.
+pub record StartSetup (s : Switch Plain) (d : Deed) : Type 0 where
+  pub bytes : List ℕ
+  pub header : Header
+  pub guess : Password
+  pub received : d ≡ receive bytes
+  pub sound : Sound bytes header
+  pub accepted : Accepted (order.Open guess) (s .plain .registers) (s .plain .core .mode) header (messageOf bytes)
+
+pub record WrongGuess (s : Switch Plain) (d : Deed) : Type 0 where
+  pub start : StartSetup s d
+  pub wrong : s .password ≡ start .guess → ⊥
+
+-- 14 once more by itself: room enough, a Start Setup that passes all other checks, and a guess that is not the password.
+abbrev pub FourteenExactly : Type 0
+FourteenExactly = (s : Switch Plain) (e : Event) → (numberAt s e ≡ 14) ↔ ((48 ≤ e .room) × WrongGuess s (e .deed))
+
+-- The numbers that each event can have at all.
+abbrev pub Or0Or2 : ℕ → Type 0
+Or0Or2 n = (n ≡ 0) ⊎ (n ≡ 2)
+
+pub record OnlyThese : Type 0 where
+  pub press : (s : Switch Plain) (room contact : ℕ) → Or0Or2 (numberAt s (event room (press contact))) ⊎ (numberAt s (event room (press contact)) ≡ 3)
+  pub release : (s : Switch Plain) (room contact : ℕ) → Or0Or2 (numberAt s (event room (release contact))) ⊎ (numberAt s (event room (release contact)) ≡ 3)
+  pub tick : (s : Switch Plain) (room : ℕ) → Or0Or2 (numberAt s (event room tick))
+  pub receive : (s : Switch Plain) (room : ℕ) (bytes : List ℕ)
+      → Or0Or2 (numberAt s (event room (receive bytes))) ⊎ ((4 ≤ numberAt s (event room (receive bytes))) × (numberAt s (event room (receive bytes)) ≤ 14))
+  pub restart : (s : Switch Plain) (room : ℕ) → Or0Or2 (numberAt s (event room restart))
+
+-- "1: image is not 256 bytes"; else a start is 0.
+pub record StartExactly : Type 0 where
+  pub taken : (image : List ℕ) → (numberOfStart image ≡ 0) ↔ (length image ≡ size)
+  pub refused : (image : List ℕ) → (numberOfStart image ≡ 1) ↔ (length image ≡ size → ⊥)
+
+-- "the lamp blink below for 4 to 8": black, and nothing else of the switch.
+abbrev pub blackened : Switch Plain → Switch Plain
+blackened s = switch (plain (s .plain .registers) (signalled Black (s .plain .core)) (s .plain .paddles)) (s .password)
+
+abbrev pub garbled : ℕ → Bool
+garbled n = leb 4 n && leb n 8
+
+-- "A refusal changes no byte of a buffer and nothing of the switch, except the lamp blink below for 4 to 8." "On a refusal count and
+-- lengths are 0 and the rest shows the switch as it stands."
+pub record Unchanged (s : Switch Plain) (e : Event) : Type 0 where
+  pub next : respond s e .next ≡ (if garbled (numberAt s e) then blackened s else s)
+  pub sent : respond s e .shown .sent ≡ []
+  pub bytes : (out : List ℕ) → placed (respond s e .shown .sent) out ≡ out
+  pub answer : respond s e .shown .answer ≡ answerOf (numberAt s e) [] (respond s e .next .plain)
+
+abbrev pub RefusalsChangeNothing : Type 0
+RefusalsChangeNothing = (s : Switch Plain) (e : Event) → (numberAt s e ≡ 0 → ⊥) → Unchanged s e
+
+-- "An edge that finds its contact already so is 0 and alters nothing."
+pub record Idle (s : Switch Plain) (e : Event) : Type 0 where
+  pub number : numberAt s e ≡ 0
+  pub next : respond s e .next ≡ s
+  pub sent : respond s e .shown .sent ≡ []
+
+abbrev pub DownAt : ℕ → Switch Plain → Bool
+DownAt contact s = touched (kindOf contact) (paddleAt contact (s .plain .paddles))
+
+pub record AlreadySo : Type 0 where
+  pub press : (s : Switch Plain) (room contact : ℕ) → 48 ≤ room → contact ≤ 3 → DownAt contact s ≡ true → Idle s (event room (press contact))
+  pub release : (s : Switch Plain) (room contact : ℕ) → 48 ≤ room → contact ≤ 3 → DownAt contact s ≡ false → Idle s (event room (release contact))
+
+-- All that is promised of the numbers.
+pub record Numbers : Type 0 where
+  pub exactly : Exactly
+  pub fourteen : FourteenExactly
+  pub these : OnlyThese
+  pub start : StartExactly
+  pub refusals : RefusalsChangeNothing
+  pub already : AlreadySo

@@ -1,0 +1,72 @@
+-- What opens Setup, and that the right password does.
+use mathlib.Core.Bool.{true, false}
+use mathlib.Core.List.{List, [], _∷_}
+use mathlib.Core.Logic.{_⊎_}
+use mathlib.Core.Path.{_≡_}
+use Prim.Native.Nat.{ℕ, _≤_, _<_}
+use lib.ListN.{getD, length, take}
+use Rattle.vault.specs.Job.{Switch}
+use Rattle.vault.specs.Vault.{inSetup}
+use Rattle.vault.specs.declared.Mode.{Mode}
+use Rattle.vault.specs.declared.Mode.the-variants.{Normal, Setup}
+use Rattle.vault.specs.declared.Password.{Password}
+use Rattle.packet.specs.Layout.{packed}
+use Rattle.packet.specs.Promises.{Ranges}
+use Rattle.packet.specs.declared.Header.{Header}
+use Rattle.paddle.specs.Paddle.{fresh, gesture}
+use Rattle.paddle.specs.declared.Gesture.the-variants.{Taps}
+use Rattle.registers.specs.Places.{networkIn, unitIn}
+use Rattle.acts.specs.Core.{aged}
+use Rattle.switch.specs.Switch.{Deed, Event, Plain, event, receive, tick}
+use Rattle.switch.specs.Paddles.{turns}
+use Rattle.switch.specs.Events.{begun}
+use Rattle.switch.specs.Respond.{respond}
+use Rattle.promises.specs.Demand3.{Outside}
+use Rattle.promises.specs.Numbers.{StartSetup, numberAt}
+
+-- A Start Setup that passes every check, with the switch's own password. It is only accepted in Normal.
+pub record ByPassword (s : Switch Plain) (d : Deed) : Type 0 where
+  pub start : StartSetup s d
+  pub right : s .password ≡ start .guess
+
+-- The mode that a paddle finds in a tick: the paddles before it have acted.
+abbrev pub modeFound : ℕ → Plain → Mode
+modeFound i p = turns 0 (take i (p .paddles)) (begun p (aged (p .core))) .core .mode
+
+-- A tick in which a paddle closes five taps and finds Normal.
+pub record ByFiveTaps (s : Switch Plain) (d : Deed) : Type 0 where
+  pub paddle : ℕ
+  pub ticked : d ≡ tick
+  pub there : paddle < length (s .plain .paddles)
+  pub five : gesture (getD (s .plain .paddles) paddle fresh) ≡ Taps 5
+  pub finds : modeFound paddle (s .plain) ≡ Normal
+
+-- An event that finds the switch outside Setup and leaves it in Setup is one of these two.
+abbrev pub OnlySo : Type 0
+OnlySo =
+    (s : Switch Plain) (e : Event) → Outside s → inSetup (respond s e .next .plain .core .mode) ≡ true
+    → (48 ≤ e .room) × (ByPassword s (e .deed) ⊎ ByFiveTaps s (e .deed))
+
+-- The first of them always opens it.
+abbrev pub PasswordOpens : Type 0
+PasswordOpens =
+    (s : Switch Plain) (e : Event) → 48 ≤ e .room → ByPassword s (e .deed)
+    → (s .plain .core .mode ≡ Normal) × ((numberAt s e ≡ 0) × (respond s e .next .plain .core .mode ≡ Setup))
+
+-- The packet with a password for the guess.
+abbrev pub startSetup : Header → Password → List ℕ
+startSetup h w = packed h (0x03 ∷ w .0 ∷ w .1 ∷ [])
+
+-- "the full switch of demand 2, which the right password does open": for every password, from every source, on network 0 or our own.
+abbrev pub RightPasswordOpens : Type 0
+RightPasswordOpens =
+    (s : Switch Plain) (room : ℕ) (h : Header) → 48 ≤ room → s .plain .core .mode ≡ Normal
+    → Ranges h 3 → h .link ≡ false → (h .network ≡ 0) ⊎ (h .network ≡ networkIn (s .plain .registers))
+    → h .destination ≡ unitIn (s .plain .registers) → (h .destination ≡ 0 → ⊥)
+    → (numberAt s (event room (receive (startSetup h (s .password)))) ≡ 0)
+    × (respond s (event room (receive (startSetup h (s .password)))) .next .plain .core .mode ≡ Setup)
+
+pub record Opening : Type 0 where
+  pub only : OnlySo
+  pub password : PasswordOpens
+  pub opens : RightPasswordOpens
