@@ -78,10 +78,6 @@ impl Options {
 }
 
 impl Dimmer {
-    pub const FULL: Step = Step(200);
-
-    pub const OFF: Step = Step(0);
-
     // The dimmer after a start or restart.
     pub fn fresh(level: Step) -> Dimmer
         ensures { λ r. ⌜ r ≡ fresh level ⌝ }
