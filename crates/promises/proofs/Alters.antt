@@ -3,7 +3,7 @@ use mathlib.Core.Bool.{Bool, true, false, _&&_, and-eq-true-iff, true≢false}
 use mathlib.Core.List.{List, [], _∷_, _++_, map}
 use mathlib.Core.Logic.{_⊎_, inl, inr}
 use mathlib.Core.Path.{_≡_, refl, sym, ap, ap₂, _∙_, subst}
-use Prim.Native.Nat.{ℕ, zero, suc, _+_, _-_, _≤_, _<_}
+use Prim.Native.Nat.{ℕ, zero, suc, _+_, _<_}
 use native.Mathlib.Omega.{arith}
 use borrow.Author.Tests.{eqb-true, leb-true, ltb-true, ne-eqb}
 use lib.Dec.{eqb, leb, ltb}
@@ -12,7 +12,7 @@ use Rattle.words.specs.Words.{if_then_else_}
 use Rattle.words.proofs.Laws.{both, cases}
 use Rattle.units.specs.Units.{percentOf}
 use Rattle.units.specs.declared.Step.{Step}
-use Rattle.vault.specs.Job.{Byte, Change, Outcome, Switch, Answered, answered, became, changed, done, kept, nothing, put, settled, switch}
+use Rattle.vault.specs.Job.{Byte, Change, Outcome, Switch, Answered, answered, became, changed, done, kept, nothing, put, settled}
 use Rattle.vault.specs.Product
 use Rattle.vault.specs.Vault.{inSetup, matches}
 use Rattle.vault.specs.declared.Mode.{Mode}
@@ -103,10 +103,6 @@ followed-changed a b w i = record { 0 = over-became (a .first) (b .first) (w .0)
 -- ---- the paddles
 
 -- A gesture leaves the count of the 480 ticks alone.
-setting-save : (all : List ℕ) (level rate : ℕ) (c : Core) → setting all level rate c .save ≡ c .save
-unfolding setting
-setting-save all level rate c = refl
-
 module _ (all : List ℕ) (paddle : ℕ) (c : Core) where
   abbrev SameSave : Effect → Type 0
   SameSave e = e .core .save ≡ c .save
@@ -334,10 +330,10 @@ module _ (s : Switch Plain) where
   deed-says (receive bytes) = frame-says (readOf bytes) (messageOf bytes)
   deed-says restart = restart-says
 
-  abbrev Event-says : Deed → Asked → Bool → Type 0
-  Event-says d j short = Says s (if short then [] else byDeed s (settled (s .password) j .next .plain .core .dimmer .level) d) (settled (s .password) j)
+  abbrev EventSays : Deed → Asked → Bool → Type 0
+  EventSays d j short = Says s (if short then [] else byDeed s (settled (s .password) j .next .plain .core .dimmer .level) d) (settled (s .password) j)
 
-  room-says : (d : Deed) (short : Bool) → Event-says d (if short then done (refused 2 p) nothing else doing d p) short
+  room-says : (d : Deed) (short : Bool) → EventSays d (if short then done (refused 2 p) nothing else doing d p) short
   room-says d true = refused-says 2
   room-says d false = deed-says d
 

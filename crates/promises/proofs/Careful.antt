@@ -174,6 +174,7 @@ doing-fine tick p = ticking-fine p
 doing-fine (receive bytes) p = reading-fine p (readOf bytes) (messageOf bytes)
 doing-fine restart p = λ _. tt
 
+-- So the whole switch is careful, in every state and at every event.
 pub careful : Careful wallSwitch
 unfolding job
 careful p e = both (Fine p) (ltb (e .room) 48) (λ _. tt) (doing-fine (e .deed) p)

@@ -171,22 +171,23 @@ e-number s room enough =
 abbrev Has : Switch Plain → ℕ → Paddle → Type 0
 Has s contact q = (length (s .plain .paddles) ≡ 2) × (paddleAt contact (s .plain .paddles) ≡ q)
 
-next-at : (l : List Paddle) (i : ℕ) → i < length l → getD (map next l) i fresh ≡ next (getD l i fresh)
+pub next-at : (l : List Paddle) (i : ℕ) → i < length l → getD (map next l) i fresh ≡ next (getD l i fresh)
 next-at [] i h = absurd (omega arith)
 next-at (p ∷ l) zero h = refl
 next-at (p ∷ l) (suc i) h = next-at l i (omega arith)
 
-ticks-shift : (n : ℕ) (p : Paddle) → ticks n (next p) ≡ ticks (suc n) p
+pub ticks-shift : (n : ℕ) (p : Paddle) → ticks n (next p) ≡ ticks (suc n) p
 unfolding ticks
 ticks-shift zero p = refl
 ticks-shift (suc n) p = ap next (ticks-shift n p)
 
-run-joined : (s : Switch Plain) (es fs : List Event) → runOf s (es ++ fs) ≡ runOf (runOf s es) fs
+pub run-joined : (s : Switch Plain) (es fs : List Event) → runOf s (es ++ fs) ≡ runOf (runOf s es) fs
 unfolding run
 run-joined s [] fs = refl
 run-joined s (e ∷ es) fs = run-joined (respond s e .next) es fs
 
 module _ (contact : ℕ) (known : contact ≤ 3) where
+  -- An edge or a tick moves that paddle as the recogniser says.
   pub has-pressed : (s : Switch Plain) (q : Paddle) → Has s contact q → Has (respond s (with48 (press contact)) .next) contact (pressed (kindOf contact) q)
   unfolding Product.respond settled pressing finished pressedAt paddleOf
   has-pressed s q h =

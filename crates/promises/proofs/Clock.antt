@@ -1,5 +1,5 @@
 -- The clock does not cut the deck, shown.
-use mathlib.Core.List.{List, [], _∷_, map}
+use mathlib.Core.List.{List, map}
 use mathlib.Core.Path.{_≡_, refl, sym, ap, ap₂, _∙_, subst}
 use Prim.Native.Nat.{ℕ, zero, suc, _<_, _≤_, _%_}
 use native.Mathlib.Omega.{arith}
@@ -13,15 +13,13 @@ use Rattle.paddle.specs.Paddle.{fresh, next}
 use Rattle.paddle.specs.Promises.{Same, raised, ticks}
 use Rattle.paddle.specs.declared.Paddle.{Paddle}
 use Rattle.paddle.proofs.Alike.{alike-same, rested}
-use Rattle.registers.specs.Registers.{apart, imageOf, passwordIn}
 use Rattle.registers.proofs.Laws.{password-back, registers-back}
-use Rattle.switch.specs.Switch.{Event, Plain, event, restart, tick}
+use Rattle.switch.specs.Switch.{Plain, event, restart, tick}
 use Rattle.switch.specs.Events.{doing, finished, job, paddleOf, restarting, ticking, woken}
 use Rattle.switch.specs.Respond.{respond, startedFrom}
-use Rattle.promises.specs.Bounds.{Sane}
 use Rattle.promises.specs.Cases.{runOf, ticksOf, with48}
 use Rattle.promises.specs.Clock.{Clock, RestartForgets, RestartForgetsForGood, RestartIsStart, TicksBeforeAPress}
-use Rattle.promises.specs.Demand3.{imageIn}
+use Rattle.promises.proofs.Cases.{next-at, ticks-shift}
 
 restarted : (s : Switch Plain) (room : ℕ) → 48 ≤ room → respond s (event room restart) .next ≡ switch (woken (s .plain .registers)) (s .password)
 unfolding Product.respond job doing restarting settled changed became
@@ -47,16 +45,6 @@ paddles-ticked : (s : Switch Plain) → respond s (with48 tick) .next .plain .pa
 unfolding Product.respond job doing ticking finished settled
 paddles-ticked s = refl
 
-next-at : (i : ℕ) (ps : List Paddle) → i < length ps → getD (map next ps) i fresh ≡ next (getD ps i fresh)
-next-at i [] h = absurd (omega arith)
-next-at zero (p ∷ ps) h = refl
-next-at (suc i) (p ∷ ps) h = next-at i ps (omega arith)
-
-ticks-first : (n : ℕ) (p : Paddle) → ticks n (next p) ≡ ticks (suc n) p
-unfolding ticks
-ticks-first zero p = refl
-ticks-first (suc n) p = ap next (ticks-first n p)
-
 paddle-ticks : (n : ℕ) (s : Switch Plain) (i : ℕ) → i < length (s .plain .paddles) → getD (runOf s (ticksOf n) .plain .paddles) i fresh ≡ ticks n (getD (s .plain .paddles) i fresh)
 unfolding run ticksOf ticks
 paddle-ticks zero s i h = refl
@@ -64,8 +52,8 @@ paddle-ticks (suc n) s i h =
     let now = respond s (with48 tick) .next in
     let two = paddles-ticked s in
     paddle-ticks n now i (rw (two, length-map (s .plain .paddles) next) h)
-    ∙ ap (ticks n) (ap (λ (ps : List Paddle). getD ps i fresh) two ∙ next-at i (s .plain .paddles) h)
-    ∙ ticks-first n (getD (s .plain .paddles) i fresh)
+    ∙ ap (ticks n) (ap (λ (ps : List Paddle). getD ps i fresh) two ∙ next-at (s .plain .paddles) i h)
+    ∙ ticks-shift n (getD (s .plain .paddles) i fresh)
 
 ticks-before-a-press : TicksBeforeAPress
 unfolding paddleOf

@@ -12,7 +12,8 @@ use Rattle.acts.specs.Core.{started}
 use Rattle.switch.specs.Switch.{Plain, plain}
 use Rattle.switch.specs.Events.{woken}
 use Rattle.switch.specs.Respond.{wallSwitch, startedFrom}
-use Rattle.promises.specs.Demand3.{Alike, Demand3, HeldApart, Lent, NeverOpens, OfTwoImages, OfTwoSwitches, Outside, SameToTheEye, afterAll, events, filled}
+use Rattle.promises.specs.Demand3.{Alike, Demand3, EverApart, HeldApart, Lent, NeverOpens, OfTwoImages, OfTwoSwitches, Outside, SameToTheEye, afterAll, events, filled}
+use Rattle.promises.proofs.Bounds.{within-bounds}
 use Rattle.promises.proofs.Careful.{careful}
 
 -- The full switch keeps its password.
@@ -57,6 +58,9 @@ unfolding startedFrom woken started inSetup
 of-two-images a b ls whole same =
     same-eye (startedFrom a) (startedFrom b) ls (ap woken (alike-apart a b (same .0) (same .1))) refl
 
+ever-apart : EverApart
+ever-apart image ls long = within-bounds .run-stays (startedFrom image) (events ls) (within-bounds .start image long) .dead
+
 -- Demand 3.
 pub demand-3 : Demand3
-demand-3 = record { switches = of-two-switches; images = of-two-images; guest = keeps }
+demand-3 = record { switches = of-two-switches; images = of-two-images; apart = ever-apart; guest = keeps }

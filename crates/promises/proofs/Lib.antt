@@ -9,4 +9,5 @@ pub mod Rivals
 pub mod Opening
 pub mod Alters
 pub mod Presets
+pub mod Passing
 pub mod Clock

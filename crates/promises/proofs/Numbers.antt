@@ -42,7 +42,7 @@ use Rattle.switch.specs.Paddles.{after, followed, over, turned}
 use Rattle.switch.specs.Events.{Asked, answering, doing, finished, garbled, gestureAt, getting, job, kindOf, known, obeying, opening, ordering, paddleAt, paddleOf, pressedAt, pressing, reading, receiving, refused, releasedAt, releasing, restarting, signalledBy, ticking}
 use Rattle.switch.specs.Respond.{noAnswer, respond, startAnswer, startedFrom, wallSwitch}
 use Rattle.promises.proofs.Jobs.{press-job, release-job}
-use Rattle.promises.specs.Numbers.{AlreadySo, DeedRefused, DownAt, Exactly, FourteenExactly, Idle, Numbers, OnlyThese, PacketRefused, RefusalsChangeNothing, Row, StartExactly, Or0Or2, WrongGuess, blackened, done, garbled as isGarbled, no-room, not-accepted, numberAt, numberOfStart, refused as row-refused, reserved-bit, too-long, too-short, wrong-length, wrong-password, wrong-sum}
+use Rattle.promises.specs.Numbers.{AlreadySo, DeedRefused, downAt, Exactly, FourteenExactly, Idle, Numbers, OnlyThese, PacketRefused, RefusalsChangeNothing, Row, StartExactly, Or0Or2, WrongGuess, blackened, done, garbled as isGarbled, no-room, not-accepted, numberAt, numberOfStart, refused as row-refused, reserved-bit, too-long, too-short, wrong-length, wrong-password, wrong-sum}
 
 -- The number that a job comes to.
 abbrev numberIn : Password → Asked → ℕ
@@ -329,13 +329,13 @@ refusals s e ne =
 abbrev nothingDone : Plain → Asked
 nothingDone p = finally (outcome (shown 0 [] p) p) nothing
 
-pressing-idle : (contact : ℕ) (s : Switch Plain) → DownAt contact s ≡ true → pressing contact (s .plain) ≡ nothingDone (s .plain)
+pressing-idle : (contact : ℕ) (s : Switch Plain) → downAt contact s ≡ true → pressing contact (s .plain) ≡ nothingDone (s .plain)
 unfolding pressing finished pressedAt signalledBy
 pressing-idle contact s d =
     let i = paddleOf contact in
     rw (pressed-again (kindOf contact) (paddleAt contact (s .plain .paddles)) d, set-getD (s .plain .paddles) i fresh)
 
-releasing-idle : (contact : ℕ) (s : Switch Plain) → DownAt contact s ≡ false → releasing contact (s .plain) ≡ nothingDone (s .plain)
+releasing-idle : (contact : ℕ) (s : Switch Plain) → downAt contact s ≡ false → releasing contact (s .plain) ≡ nothingDone (s .plain)
 unfolding releasing finished releasedAt gestureAt turned after followed over applied changeOf changeAt unwritten signalledBy
 releasing-idle contact s d =
     let i = paddleOf contact in

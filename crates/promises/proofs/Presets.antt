@@ -1,14 +1,13 @@
 -- What can alter a preset, shown from what can alter a register.
-use mathlib.Core.Bool.{Bool, true, false, true≢false, and-false}
+use mathlib.Core.Bool.{true, false, true≢false}
 use mathlib.Core.List.{List, [], _∷_, _++_}
 use mathlib.Core.Logic.{_⊎_, inl, inr, ⊎-elim}
 use mathlib.Core.Path.{_≡_, refl, sym, ap, _∙_, subst}
-use Prim.Native.Nat.{ℕ, zero, suc, _+_, _≤_, _<_}
+use Prim.Native.Nat.{ℕ, zero, suc, _+_, _<_}
 use native.Mathlib.Omega.{arith}
 use borrow.Author.Tests.{eqb-true, le-leb, le-ltb, lt-leb, lt-ltb, ltb-false, ne-eqb}
-use lib.Dec.{eqb, leb, ltb}
+use lib.Dec.{eqb, ltb}
 use lib.ListN.{length, getD}
-use Rattle.words.specs.Words.{if_then_else_}
 use Rattle.words.proofs.Laws.{both, cases, two-ways}
 use Rattle.units.specs.declared.Step.{Step}
 use Rattle.vault.specs.Job.{Outcome, Switch, done, nothing, settled}
@@ -49,16 +48,16 @@ use Rattle.switch.specs.Switch.{Deed, Event, Plain, Shown, event, press, receiv
 use Rattle.switch.specs.Paddles.{Moment, after, turned, turns}
 use Rattle.switch.specs.Events.{Asked, answering, begun, doing, finished, garbled, gestureAt, getting, job, kindOf, known, obeyed, obeying, opening, ordering, paddleAt, paddleOf, pressing, reading, receiving, refused, releasing, restarting, signalled, signalledBy, ticking, woken}
 use Rattle.switch.specs.Respond.{respond, startedFrom}
-use Rattle.promises.specs.Alters.{Cause, Closes, EachWrite, FactorySet, Misses, SetAt, StoredAt, Writing, alone, byDeed, byPaddles, bySaving, byteAt, bytesAfter, five-taps, modeFor, right-guess, writesOf}
+use Rattle.promises.specs.Alters.{Cause, Closes, EachWrite, Misses, StoredAt, Writing, alone, byDeed, byPaddles, bySaving, byteAt, bytesAfter, five-taps, modeFor, right-guess, writesOf}
 use Rattle.promises.specs.Bounds.{Sane}
 use Rattle.promises.specs.Cases.{benchImage, zeros}
 use Rattle.promises.specs.Demand3.{Outside}
-use Rattle.promises.specs.Presets.{AltersPreset, Enters, FactoryPreset, OnlyByPassing, OnlyStored, OverRuns, Passes, Passing, PresetPlace, PresetSafe, Presets, PresetsStay, Witness, aboutToPass}
+use Rattle.promises.specs.Presets.{AltersPreset, Enters, FactoryPreset, OnlyByPassing, OnlyStored, OverRuns, Passes, Passing, PresetPlace, PresetSafe, PresetsStay, Witness, aboutToPass}
 use Rattle.promises.proofs.Alters.{Apart, alters, by-three-ways, counter-place, turned-mode}
 use Rattle.promises.proofs.Bounds.{within-bounds}
 
 -- "the rest of 0x40-0xBF to 255"
-factory-preset : FactoryPreset
+pub factory-preset : FactoryPreset
 unfolding factoryAt
 factory-preset place old h =
     simp (
@@ -90,7 +89,7 @@ preset-apart place h = record {
   factory = preset-factory place h;
 }
 
-preset-safe : PresetSafe
+pub preset-safe : PresetSafe
 preset-safe s e place sane h =
     by-three-ways s e place (λ n. (n ≡ byteAt s place) ⊎ AltersPreset s (e .deed) place n) (preset-apart place h) sane (omega arith)
     (λ n w. inr (inl w)) (λ n w. inr (inr (inl w))) (λ n w. inr (inr (inr w))) (inl refl)
@@ -132,7 +131,7 @@ unfolding turns modeFor
 turns-mode i [] m = refl
 turns-mode i (p ∷ ps) m = turns-mode (i + 1) ps (turned i (gesture p) m) ∙ ap (λ (mode : Mode). modeFor mode ps (length ps)) (turned-mode i (gesture p) m)
 
-signalled-mode : (sent : List (List ℕ)) (c : Core) → signalledBy sent c .mode ≡ c .mode
+pub signalled-mode : (sent : List (List ℕ)) (c : Core) → signalledBy sent c .mode ≡ c .mode
 unfolding signalledBy signalled
 signalled-mode [] c = refl
 signalled-mode (p ∷ sent) c = refl
@@ -143,13 +142,13 @@ let-go-leads Normal = (refl, refl)
 let-go-leads Setup = (refl, refl)
 let-go-leads Factory = (refl, refl)
 
-up-leads : (mode : Mode) (contact : Contact) (p : Paddle) → leads mode (gestureUp contact p) ≡ mode
+pub up-leads : (mode : Mode) (contact : Contact) (p : Paddle) → leads mode (gestureUp contact p) ≡ mode
 unfolding gestureUp ending
 up-leads mode contact p =
     both (λ (g : Gesture). leads mode g ≡ mode) (goesUp contact p)
     (both (λ (g : Gesture). leads mode g ≡ mode) (eqb (moved contact false p .hold) 0) (let-go-leads mode .0) (let-go-leads mode .1)) (let-go-leads mode .1)
 
-tick-mode : (s : Switch Plain) → settled (s .password) (ticking (s .plain)) .next .plain .core .mode ≡ modeFor (s .plain .core .mode) (s .plain .paddles) (length (s .plain .paddles))
+pub tick-mode : (s : Switch Plain) → settled (s .password) (ticking (s .plain)) .next .plain .core .mode ≡ modeFor (s .plain .core .mode) (s .plain .paddles) (length (s .plain .paddles))
 unfolding ticking finished settled after saved aged
 tick-mode s = signalled-mode _ _ ∙ turns-mode 0 (s .plain .paddles) (begun (s .plain) (aged (s .plain .core)))
 
@@ -266,14 +265,14 @@ only-stored s e sane out no-entry place h =
     (setup-unfound s out (sane .paddles) (λ i c. no-entry (enough, subst (λ (d : Deed). Cause s d (alone (write.Count Setups))) (sym (w .event)) (five-taps i c))) (w .paddle))))
     (inl refl))
 
-over-runs : OverRuns
+pub over-runs : OverRuns
 unfolding run
 over-runs s [] sane out quiet = record { presets = tt; outside = out }
 over-runs s (e ∷ es) sane out quiet =
     let rest = over-runs (respond s e .next) es (within-bounds .stays s e sane) (stays-outside s e sane out (quiet .0)) (quiet .1) in
     record { presets = (only-stored s e sane out (quiet .0), rest .presets); outside = rest .outside }
 
-presets-stay : PresetsStay
+pub presets-stay : PresetsStay
 unfolding run
 presets-stay s [] sane out quiet place h = refl
 presets-stay s (e ∷ es) sane out quiet place h =
@@ -308,7 +307,7 @@ passes-by mode (top ∷ bottom ∷ ps) zero out two which finds taps = absurd (n
 passes-by mode (top ∷ bottom ∷ ps) (suc zero) out two which finds taps = let in-by = into-setup mode (gesture top) out finds in (in-by .0, (in-by .1, taps))
 passes-by mode (top ∷ bottom ∷ ps) (suc (suc i)) out two which finds taps = absurd (omega arith)
 
-only-by-passing : OnlyByPassing
+pub only-by-passing : OnlyByPassing
 only-by-passing s i sane out c =
     let by = passes-by (s .plain .core .mode) (s .plain .paddles) i out (sane .paddles) (c .which) (c .finds) (c .taps) in
     record { mode = by .0; top = by .1 .0; bottom = by .1 .1 }
@@ -337,7 +336,7 @@ unfolding bySaving byteAfter sets
 saving-elsewhere save level place n h =
     both (λ (w : Write). byteAfter w [] place n ≡ n) (eqb save 0) (rw (ne-eqb place savedPlace (λ e. omega arith))) refl
 
-passing : Passing
+pub passing : Passing
 unfolding Product.respond job doing writesOf byDeed bytesAfter
 passing s sane p =
     let level = respond s (event 48 tick) .next .plain .core .dimmer .level in
@@ -371,17 +370,5 @@ about-before : byteAt aboutToPass 0x41 ≡ 0
 unfolding startedFrom woken apart imageOf passwordIn benchImage zeros applied stored counted counterPlace
 about-before = refl
 
-witness : Witness
+pub witness : Witness
 witness = record { sane = about-sane; passes = about-passes; before = about-before; through = passing aboutToPass about-sane about-passes }
-
--- All that is promised of the presets.
-pub presets : Presets
-presets = record {
-  safe = preset-safe;
-  factory = factory-preset;
-  runs = over-runs;
-  stay = presets-stay;
-  only = only-by-passing;
-  passing = passing;
-  witness = witness;
-}

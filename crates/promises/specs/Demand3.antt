@@ -29,7 +29,7 @@ pub record Alike (s t : Switch Plain) : Type 0 where
   pub paddles : s .plain .paddles ≡ t .plain .paddles
   pub registers : SameOutside (imageIn s) (imageIn t)
 
--- The password is held apart: the array's own bytes at its two places are 0, in every switch that was started.
+-- The password is held apart: the array's own bytes at its two places are 0.
 abbrev pub HeldApart : Switch Plain → Type 0
 HeldApart s = Dead (s .plain .registers)
 
@@ -85,8 +85,13 @@ OfTwoImages =
     (a b : List ℕ) (ls : List Lent) → length a ≡ size → SameOutside a b → NeverOpens (startedFrom a) ls → NeverOpens (startedFrom b) ls
     → SameToTheEye (startedFrom a) (startedFrom b) ls
 
+-- It is held apart in every switch that was started, whatever has happened to it since.
+abbrev pub EverApart : Type 0
+EverApart = (image : List ℕ) (ls : List Lent) → length image ≡ size → HeldApart (afterAll (startedFrom image) ls)
+
 -- Demand 3 of the full switch, with what follows from it: the guest who talks to one switch, or to many on one main, rules out at most the passwords he tried.
 pub record Demand3 : Type 0 where
   pub switches : OfTwoSwitches
   pub images : OfTwoImages
+  pub apart : EverApart
   pub guest : KeepsItsPassword wallSwitch

@@ -119,12 +119,13 @@ pub record Idle (s : Switch Plain) (e : Event) : Type 0 where
   pub next : respond s e .next ≡ s
   pub sent : respond s e .shown .sent ≡ []
 
-abbrev pub DownAt : ℕ → Switch Plain → Bool
-DownAt contact s = touched (kindOf contact) (paddleAt contact (s .plain .paddles))
+-- The contact is down.
+abbrev pub downAt : ℕ → Switch Plain → Bool
+downAt contact s = touched (kindOf contact) (paddleAt contact (s .plain .paddles))
 
 pub record AlreadySo : Type 0 where
-  pub press : (s : Switch Plain) (room contact : ℕ) → 48 ≤ room → contact ≤ 3 → DownAt contact s ≡ true → Idle s (event room (press contact))
-  pub release : (s : Switch Plain) (room contact : ℕ) → 48 ≤ room → contact ≤ 3 → DownAt contact s ≡ false → Idle s (event room (release contact))
+  pub press : (s : Switch Plain) (room contact : ℕ) → 48 ≤ room → contact ≤ 3 → downAt contact s ≡ true → Idle s (event room (press contact))
+  pub release : (s : Switch Plain) (room contact : ℕ) → 48 ≤ room → contact ≤ 3 → downAt contact s ≡ false → Idle s (event room (release contact))
 
 -- All that is promised of the numbers.
 pub record Numbers : Type 0 where

@@ -1,5 +1,5 @@
 -- What can alter a preset: the receive components at 0x40 to 0x6F, after one event and over every run.
-use mathlib.Core.List.{List, [], _∷_}
+use mathlib.Core.List.{List, [], _∷_, _++_}
 use mathlib.Core.Logic.{_⊎_}
 use mathlib.Core.Path.{_≡_}
 use Prim.Native.Nat.{ℕ, _≤_}
@@ -15,11 +15,11 @@ use Rattle.registers.specs.Write.{factoryAt}
 use Rattle.registers.specs.declared.places.Counter.the-variants.{Setups}
 use Rattle.registers.specs.declared.write.Write.the-variants.{Count}
 use Rattle.judge.specs.declared.Order.the-variants as order
-use Rattle.switch.specs.Switch.{Deed, Event, Plain, event, plain, receive, tick}
+use Rattle.switch.specs.Switch.{Deed, Event, Plain, event, plain, press, receive, release, tick}
 use Rattle.switch.specs.Respond.{respond, startedFrom, wallSwitch}
 use Rattle.promises.specs.Alters.{Asks, Cause, Closes, FactorySet, SetAt, StoredAt, alone, byteAt}
 use Rattle.promises.specs.Bounds.{Sane}
-use Rattle.promises.specs.Cases.{benchImage}
+use Rattle.promises.specs.Cases.{benchImage, pressOf, runOf, ticksOf, with48}
 use Rattle.promises.specs.Demand3.{Outside}
 
 -- "Receive components 0x40-0x6F: 16 of link, level, rate."
@@ -41,7 +41,8 @@ PresetSafe =
 abbrev pub FactoryPreset : Type 0
 FactoryPreset = (place old : ℕ) → PresetPlace place → factoryAt place old ≡ 255
 
--- An event that enters Setup: a right guess, or five taps that close in Normal, with room enough.
+-- An event that enters Setup: a right guess, or five taps that close in Normal, with room enough. A tick that enters Setup and leaves it again
+-- within that event is one of these, though no answer shows Setup.
 abbrev pub Enters : Switch Plain → Event → Type 0
 Enters s e = (48 ≤ e .room) × Cause s (e .deed) (alone (Count Setups))
 
@@ -99,6 +100,16 @@ pub record Witness : Type 0 where
   pub before : byteAt aboutToPass 0x41 ≡ 0
   pub through : PassesThrough aboutToPass
 
+-- And every start leads to one, by the paddles alone: five times a tap of the top with two of the bottom in it, and then 179 ticks.
+abbrev pub threeTaps : List Event
+threeTaps = with48 (press 0) ∷ (pressOf 60 1 ++ (pressOf 60 1 ++ with48 (release 0) ∷ []))
+
+abbrev pub passingTaps : List Event
+passingTaps = threeTaps ++ (threeTaps ++ (threeTaps ++ (threeTaps ++ (threeTaps ++ ticksOf 179))))
+
+abbrev pub ReachedByTaps : Type 0
+ReachedByTaps = (image : List ℕ) → Passes (runOf (startedFrom image) passingTaps)
+
 -- All that is promised of the presets.
 pub record Presets : Type 0 where
   pub safe : PresetSafe
@@ -108,3 +119,4 @@ pub record Presets : Type 0 where
   pub only : OnlyByPassing
   pub passing : Passing
   pub witness : Witness
+  pub reached : ReachedByTaps
