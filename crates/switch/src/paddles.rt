@@ -23,14 +23,14 @@ const PADDLES: usize = 2;
 const PLACE: usize = 24;
 
 // What a gesture leaves: the core and the password after it, and the note of what it sends.
-pub struct After {
+pub(crate) struct After {
     pub core: Core,
     pub password: Password,
     pub note: Note,
 }
 
 // What a tick of all paddles leaves: with them, and with a note for each.
-pub struct AfterAll {
+pub(crate) struct AfterAll {
     pub core: Core,
     pub password: Password,
     pub paddles: [Paddle; 2],
@@ -38,7 +38,7 @@ pub struct AfterAll {
 }
 
 // The act first, then the packet: in the mode that the gesture finds, with the registers and the percent after the act.
-pub fn turned(
+pub(crate) fn turned(
     core: Core,
     password: Password,
     paddle: u8,
@@ -62,7 +62,12 @@ pub fn turned(
 }
 
 // A tick of the paddles in order.
-pub fn turns(core: Core, password: Password, paddles: [Paddle; 2], all: &mut [u8; 256]) -> AfterAll
+pub(crate) fn turns(
+    core: Core,
+    password: Password,
+    paddles: [Paddle; 2],
+    all: &mut [u8; 256],
+) -> AfterAll
     ensures { λ r. ⌜ Turned (turns 0 paddles (moment (now (all .entry)) core [] nothing)) password paddles (r .core) (now (all .exit)) (r .notes) (r .password) (r .paddles) ⌝ }
 {
     let mut next_core = core;
@@ -92,7 +97,7 @@ pub fn turns(core: Core, password: Password, paddles: [Paddle; 2], all: &mut [u8
 }
 
 // Lays a note's packet into the first place, and counts it.
-pub fn lay_note(note: Note, out: &mut [u8]) -> Sent
+pub(crate) fn lay_note(note: Note, out: &mut [u8]) -> Sent
     requires { ⌜ 48 ≤ length (now out) ⌝ }
     ensures { λ r. ⌜ Sends (sentOf note) (now (out .entry)) r (now (out .exit)) ⌝ }
 {
@@ -101,7 +106,7 @@ pub fn lay_note(note: Note, out: &mut [u8]) -> Sent
 }
 
 // Lays the notes' packets into the places in order, and counts them.
-pub fn lay_notes(notes: [Note; 2], out: &mut [u8]) -> Sent
+pub(crate) fn lay_notes(notes: [Note; 2], out: &mut [u8]) -> Sent
     requires { ⌜ 48 ≤ length (now out) ⌝ }
     ensures { λ r. ⌜ Sends (noted notes) (now (out .entry)) r (now (out .exit)) ⌝ }
 {
