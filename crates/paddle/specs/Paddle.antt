@@ -97,6 +97,13 @@ completed p = if down p then Hold else closing (p .taps)
 unfoldable pub gesture : Paddle → Gesture
 gesture p = if ends p then completed p else Nothing
 
+-- Whether nothing is completed.
+unfoldable pub none : Gesture → Bool
+none Nothing = true
+none (Taps n) = false
+none Hold = false
+none Release = false
+
 unfoldable pub left : Paddle → ℕ
 left p = if down p then less (p .hold) else p .hold
 

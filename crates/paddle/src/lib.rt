@@ -1,6 +1,6 @@
 // One paddle: edges and ticks in, gestures out. Nothing here knows which paddle of the switch it is.
 ghost use mathlib.Core.Path.{_≡_};
-ghost use Rattle.paddle.specs.Paddle.{fresh, down, pressed, released, gestureUp, next, gesture, turn};
+ghost use Rattle.paddle.specs.Paddle.{fresh, down, pressed, released, gestureUp, next, gesture, none, turn};
 ghost use Rattle.paddle.specs.Paddle.{moved, begun, ended, ending, tapped, counted, ends, completed, closing, left, kept};
 
 // Ticks from the press to Hold.
@@ -38,6 +38,19 @@ pub struct Paddle {
 pub struct Turn {
     pub paddle: Paddle,
     pub gesture: Gesture,
+}
+
+impl Gesture {
+    pub fn none(self) -> bool
+        ensures { λ r. ⌜ r ≡ none self ⌝ }
+    {
+        match self {
+            Gesture::Nothing => true,
+            Gesture::Taps(_) => false,
+            Gesture::Hold => false,
+            Gesture::Release => false,
+        }
+    }
 }
 
 impl Paddle {

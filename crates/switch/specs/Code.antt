@@ -1,5 +1,6 @@
 -- What the inner functions of the code promise, in the definitions' terms.
 use mathlib.Core.Path.{_≡_}
+use mathlib.Core.Bool.{Bool, true, _&&_}
 use mathlib.Core.List.{List, [], _∷_, _++_, map}
 use Prim.Native.Nat.{ℕ}
 use lib.Dec.{eqb}
@@ -7,15 +8,16 @@ use Rattle.words.specs.Words.{if_then_else_}
 use Rattle.lamp.specs.declared.Colour.the-variants.{Black, Red}
 use Rattle.vault.specs.Job.{changed, settled, switch}
 use Rattle.vault.specs.declared.Password.{Password}
-use Rattle.paddle.specs.Paddle.{next}
+use Rattle.paddle.specs.Paddle.{next, gesture, none}
 use Rattle.paddle.specs.declared.Gesture.{Gesture}
 use Rattle.paddle.specs.declared.Paddle.{Paddle}
+use Rattle.acts.specs.Core.{aged, saved}
 use Rattle.acts.specs.declared.Core.{Core}
 use Rattle.acts.specs.declared.Effect.{Effect}
 use Rattle.post.specs.Post.{sentOf, placed}
 use Rattle.post.specs.declared.Note.{Note}
 use Rattle.post.specs.declared.Reply.{Reply}
-use Rattle.registers.specs.Write.{changeOf}
+use Rattle.registers.specs.Write.{applied, changeOf}
 use Rattle.registers.specs.declared.Seen.{Seen}
 use Rattle.switch.specs.Switch.{held, tally, answerWith, answerOf}
 use Rattle.switch.specs.Paddles.{Moment}
@@ -25,6 +27,7 @@ use Rattle.switch.specs.declared.Live.{Live}
 use Rattle.switch.specs.declared.Outcome.{Outcome}
 use Rattle.switch.specs.declared.Sent.{Sent}
 use Rattle.switch.specs.declared.edges.Edge.{Edge}
+use Rattle.switch.specs.declared.paddles.Recognised.{Recognised}
 
 -- An event that is refused: the switch is shown as it stands, and stays so.
 unfoldable pub refusedWith : ℕ → Live → List ℕ → Outcome
@@ -84,3 +87,17 @@ signalledOn count c = if eqb count 0 then c else signalled Red c
 -- What an edge makes of the paddles, and the gesture that it completes.
 abbrev pub edge : List Paddle → Gesture → Edge
 edge paddles gesture = record { paddles = paddles; gesture = gesture }
+
+-- None of the paddles completes a gesture in the next tick.
+unfoldable pub quiet : List Paddle → Bool
+quiet [] = true
+quiet (p ∷ ps) = none (gesture p) && quiet ps
+
+abbrev pub recognised : List Paddle → Bool → Recognised
+recognised paddles quiet = record { paddles = paddles; quiet = quiet }
+
+-- A tick that completes no gesture, with the paddles after it.
+pub record Passes (live : Live) (paddles : List Paddle) (all : List ℕ) (answer : Answer) (live′ : Live) (all′ : List ℕ) : Type 0 where
+  pub answered : answer ≡ answerWith 0 (tally []) all′ (live′ .core)
+  pub next : live′ ≡ record { password = live .password; core = saved (aged (live .core)) .core; paddles = paddles }
+  pub registers : all′ ≡ applied (saved (aged (live .core)) .write) [] all

@@ -1,12 +1,13 @@
 // What the paddles' gestures do within one event: each acts on what the one before it has left, and notes what it sends.
 ghost use mathlib.Core.Path.{_≡_};
-ghost use mathlib.Core.List.{[]};
+ghost use mathlib.Core.List.{[], map};
 ghost use Prim.Native.Nat.{_≤_};
 ghost use lib.ListN.{length};
 ghost use Rattle.vault.specs.Job.{nothing};
+ghost use Rattle.paddle.specs.Paddle.{next};
 ghost use Rattle.post.specs.Post.{sentOf};
 ghost use Rattle.switch.specs.Paddles.{moment, turned, turns};
-ghost use Rattle.switch.specs.Code.{noted, Stands, Turned, Sends};
+ghost use Rattle.switch.specs.Code.{noted, quiet, recognised, Stands, Turned, Sends};
 use crate::ROOM;
 use crate::Sent;
 use acts::Core;
@@ -35,6 +36,34 @@ pub(crate) struct AfterAll {
     pub password: Password,
     pub paddles: [Paddle; 2],
     pub notes: [Note; 2],
+}
+
+// The paddles a tick later, and whether none of them completes a gesture in it.
+pub(crate) struct Recognised {
+    pub paddles: [Paddle; 2],
+    pub quiet: bool,
+}
+
+// A paddle's tick depends on that paddle alone.
+pub(crate) fn recognise(paddles: [Paddle; 2]) -> Recognised
+    ensures { λ r. ⌜ r ≡ recognised (map next paddles) (quiet paddles) ⌝ }
+{
+    let mut after = paddles;
+    let mut quiet = true;
+    let mut i = 0;
+    while i < PADDLES {
+        let paddle = paddles[i];
+        let turn = paddle.tick();
+        let ticked = turn.paddle;
+        let gesture = turn.gesture;
+        after[i] = ticked;
+        quiet = quiet & gesture.none();
+        i += 1;
+    }
+    Recognised {
+        paddles: after,
+        quiet,
+    }
 }
 
 // The act first, then the packet: in the mode that the gesture finds, with the registers and the percent after the act.

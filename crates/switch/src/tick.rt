@@ -1,22 +1,62 @@
 // One tick, 1/240 second.
+ghost use Prim.Native.Nat.{_≤_};
+ghost use lib.ListN.{length};
 ghost use Rattle.switch.specs.Switch.{tick};
+ghost use Rattle.switch.specs.Code.{Passes};
 ghost use Rattle.switch.specs.Respond.{Responds};
 use crate::Live;
 use crate::Outcome;
 use crate::ROOM;
+use crate::Sent;
 use crate::edges::refused;
 use crate::paddles;
 use crate::show;
 use crate::signalled_on;
+use paddle::Paddle;
 use registers::write;
 
-// In order: lamp and output timers, fade or blink, top paddle, bottom paddle, and the saved level.
+// In order: lamp and output timers, fade or blink, top paddle, bottom paddle, and the saved level. Most ticks complete no
+// gesture, and go the quick way.
 pub fn tick(live: Live, all: &mut [u8; 256], out: &mut [u8]) -> Outcome
     ensures { λ r. ⌜ Responds tick live (now (all .entry)) (now (out .entry)) (r .answer) (r .live) (now (all .exit)) (now (out .exit)) ⌝ }
 {
     if out.len() < ROOM {
         return refused(live, all, 2);
     }
+    let before = live.paddles;
+    let recognised = paddles::recognise(before);
+    let after = recognised.paddles;
+    if recognised.quiet {
+        return pass(live, after, all);
+    }
+    turn(live, all, out)
+}
+
+// A tick that completes no gesture.
+fn pass(live: Live, paddles: [Paddle; 2], all: &mut [u8; 256]) -> Outcome
+    ensures { λ r. ⌜ Passes live paddles (now (all .entry)) (r .answer) (r .live) (now (all .exit)) ⌝ }
+{
+    let password = live.password;
+    let core = live.core;
+    let effect = core.aged().saved();
+    let next = effect.core;
+    let write = effect.write;
+    write::apply(write, b"", all);
+    Outcome {
+        answer: show(next, all, 0, Sent::none()),
+        live: Live {
+            password,
+            core: next,
+            paddles,
+        },
+    }
+}
+
+// A tick of paddles that may act and send.
+fn turn(live: Live, all: &mut [u8; 256], out: &mut [u8]) -> Outcome
+    requires { ⌜ 48 ≤ length (now out) ⌝ }
+    ensures { λ r. ⌜ Responds tick live (now (all .entry)) (now (out .entry)) (r .answer) (r .live) (now (all .exit)) (now (out .exit)) ⌝ }
+{
     let password = live.password;
     let core = live.core;
     let before = live.paddles;

@@ -1,8 +1,8 @@
 use denote.Ref.{now}
+use borrow.Author.Needs.{needs}
 use Rattle.switch.specs.Switch.{tick}
 use Rattle.switch.proofs.Laws.{responds-short}
-use Rattle.switch.proofs.Finishing.{ticked-responds}
-use borrow.Author.Needs.{needs}
+use Rattle.switch.proofs.Passing.{passed-responds}
 use Rattle.switch.proofs.tick.tick.Statement.{statement}
 use Rattle.switch.proofs.tick.tick.Tie as tie
 
@@ -14,46 +14,28 @@ returns c =
     let a = c .before .before .before .before .args in
     responds-short tick (a .live) (now (a .all)) (now (a .out)) (c .refused .result) (c .before .before .if1 .taken) (c .refused .ensures)
 
-aged-requires : tie.Need-aged-requires
-aged-requires c κs = search needs
+recognise-requires : tie.Need-recognise-requires
+recognise-requires c κs = search needs
 
-turns-requires : tie.Need-turns-requires
-turns-requires c κs = search needs
+pass-requires : tie.Need-pass-requires
+pass-requires c κs = search needs
 
-saved-requires : tie.Need-saved-requires
-saved-requires c κs = search needs
+returns-2 : tie.Need-returns-2
+returns-2 c =
+    let recognise = c .before .before .before .before in
+    let test = recognise .before .before in
+    let a = test .before .before .args in
+    passed-responds (a .live) (now (a .all)) (now (a .out)) _ (recognise .recognise .result) (c .pass .result .answer) (c .pass .result .live)
+    (test .if1 .left) (recognise .recognise .ensures) (c .before .before .if2 .taken) (c .pass .ensures)
 
-slice-aggregate-apply : tie.Need-slice-aggregate-apply
-slice-aggregate-apply c = search needs
-
-apply-requires : tie.Need-apply-requires
-apply-requires c κs = search needs
-
-lay-notes-requires : tie.Need-lay-notes-requires
-lay-notes-requires c κs = search needs
-
-signalled-on-requires : tie.Need-signalled-on-requires
-signalled-on-requires c κs = search needs
-
-show-requires : tie.Need-show-requires
-show-requires c κs = search needs
+turn-requires : tie.Need-turn-requires
+turn-requires c κs = search needs
 
 same-length : tie.Need-same-length
 same-length c = search needs
 
-returns-2 : tie.Need-returns-2
-returns-2 c =
-    let blink = c .before .before .before .before in
-    let lay = blink .before .before .before in
-    let apply = lay .before .before in
-    let save = apply .before .before .before in
-    let turns = save .before .before in
-    let aged = turns .before .before in
-    let test = aged .before .before .before .before in
-    let a = test .before .before .args in
-    ticked-responds (a .live) (now (a .all)) (now (a .out)) (aged .aged .result) (turns .turns .result .core) (blink .signalled-on .result) _ _ _
-    (turns .turns .result .notes) (turns .turns .result .password) (turns .turns .result .paddles) (save .saved .result) (lay .lay-notes .result) (c .show .result)
-    (test .if1 .left) (aged .aged .ensures) (turns .turns .ensures) (save .saved .ensures) (apply .apply .ensures) (lay .lay-notes .ensures) (blink .signalled-on .ensures) (c .show .ensures)
+returns-3 : tie.Need-returns-3
+returns-3 c = search needs
 
 pub tick-spec : {M : Type 1} → statement M
 tick-spec =
@@ -61,13 +43,9 @@ tick-spec =
     (tie.spec
     refused-requires
     returns
-    aged-requires
-    turns-requires
-    saved-requires
-    slice-aggregate-apply
-    apply-requires
-    lay-notes-requires
-    signalled-on-requires
-    show-requires
+    recognise-requires
+    pass-requires
+    returns-2
+    turn-requires
     same-length
-    returns-2)
+    returns-3)
