@@ -1,16 +1,14 @@
 -- How an event function's outcome comes to be what `Responds` asks, by what the job is.
-use mathlib.Core.Path.{_≡_, refl, sym, ap, _∙_}
-use mathlib.Core.Bool.{true, false}
-use mathlib.Core.List.{List, [], _∷_}
+use mathlib.Core.Path.{_≡_, refl, _∙_}
+use mathlib.Core.List.{List, []}
 use Prim.Native.Nat.{ℕ, _<_, _≤_}
-use lib.Dec.{ltb}
 use lib.ListN.{length}
 use borrow.Author.Tests.{lt-ltb, le-ltb}
-use Rattle.vault.specs.Job.{Change, Job, Switch, changed, became, done, nothing, outcome, settled, switch}
+use Rattle.vault.specs.Job.{Change, Switch, changed, became, done, nothing, outcome, settled, switch}
 use Rattle.vault.specs.Product
 use Rattle.paddle.specs.declared.Paddle.{Paddle}
 use Rattle.post.specs.Post.{placed}
-use Rattle.switch.specs.Switch.{Plain, Deed, Event, event, held, plain, shown, tally, answerWith, answerOf, press, release}
+use Rattle.switch.specs.Switch.{Plain, Deed, event, held, plain, shown, tally, answerWith, answerOf, press, release}
 use Rattle.switch.specs.Events.{Asked, refused, known, job, doing, finished, signalledBy, pressedAt, pressing, releasing}
 use Rattle.switch.specs.Respond.{Responds}
 use Rattle.switch.specs.Code.{refusedWith}

@@ -2,6 +2,6 @@ pub mod Laws
 pub mod Turning
 pub mod Laying
 pub mod Finishing
-pub mod Passing
+pub mod Quick
 pub mod Waking
 pub mod Receiving

@@ -4,54 +4,111 @@ use mathlib.Core.Bool.{Bool, true, _&&_}
 use mathlib.Core.List.{List, [], _∷_, _++_, map}
 use Prim.Native.Nat.{ℕ}
 use lib.Dec.{eqb}
+use lib.ListN.{length}
 use Rattle.words.specs.Words.{if_then_else_}
+use Rattle.timers.specs.Timers.{less}
 use Rattle.lamp.specs.declared.Colour.the-variants.{Black, Red}
-use Rattle.vault.specs.Job.{changed, settled, switch}
+use Rattle.vault.specs.Job.{Answered, answered, changed, settled, switch}
+use Rattle.vault.specs.Vault.{matches}
 use Rattle.vault.specs.declared.Password.{Password}
 use Rattle.paddle.specs.Paddle.{next, gesture, none}
 use Rattle.paddle.specs.declared.Gesture.{Gesture}
 use Rattle.paddle.specs.declared.Paddle.{Paddle}
-use Rattle.acts.specs.Core.{aged, saved}
+use Rattle.acts.specs.Core.{aged, core, opened}
+use Rattle.acts.specs.Orders.{performed}
 use Rattle.acts.specs.declared.Core.{Core}
 use Rattle.acts.specs.declared.Effect.{Effect}
 use Rattle.post.specs.Post.{sentOf, placed}
 use Rattle.post.specs.declared.Note.{Note}
 use Rattle.post.specs.declared.Reply.{Reply}
-use Rattle.registers.specs.Write.{applied, changeOf}
+use Rattle.registers.specs.Write.{changeOf}
 use Rattle.registers.specs.declared.Seen.{Seen}
-use Rattle.switch.specs.Switch.{held, tally, answerWith, answerOf}
+use Rattle.judge.specs.declared.Order.{Order}
+use Rattle.judge.specs.declared.Order.the-variants as order
+use Rattle.switch.specs.Switch.{Plain, Shown, plain, event, receive, held, tally, answerWith, answerOf}
 use Rattle.switch.specs.Paddles.{Moment}
-use Rattle.switch.specs.Events.{Asked, answering, signalled, woken}
+use Rattle.switch.specs.Events.{answering, ordering, signalled, woken}
+use Rattle.switch.specs.Respond.{respond}
 use Rattle.switch.specs.declared.Answer.{Answer}
 use Rattle.switch.specs.declared.Live.{Live}
 use Rattle.switch.specs.declared.Outcome.{Outcome}
 use Rattle.switch.specs.declared.Sent.{Sent}
 use Rattle.switch.specs.declared.edges.Edge.{Edge}
 use Rattle.switch.specs.declared.paddles.Recognised.{Recognised}
+use Rattle.switch.specs.declared.receive.Handled.{Handled}
+use Rattle.switch.specs.declared.receive.Verdict.{Verdict}
+use Rattle.switch.specs.declared.receive.Verdict.the-variants.{Stop, Go}
+use Rattle.switch.specs.declared.tick.Passed.{Passed}
 
 -- An event that is refused: the switch is shown as it stands, and stays so.
 unfoldable pub refusedWith : ℕ → Live → List ℕ → Outcome
 refusedWith number live all = record { answer = answerWith number (tally []) all (live .core); live = live }
 
--- A packet that does not read.
-unfoldable pub garbledWith : ℕ → Live → List ℕ → Outcome
-garbledWith number live all =
-    let core = signalled Black (live .core) in
-    record {
-      answer = answerWith number (tally []) all core;
-      live = record { password = live .password; core = core; paddles = live .paddles };
-    }
+-- A switch in parts.
+abbrev pub lived : Password → Core → List Paddle → Live
+lived password core paddles = record { password = password; core = core; paddles = paddles }
 
--- What the inner functions of a packet promise: an act is answered as `answering` has it, and an order as its job is settled.
-pub record Answers (e : Effect) (values : List ℕ) (source : ℕ) (r : Reply) (s : Seen) (live : Live) (all out : List ℕ) (answer : Answer) (live′ : Live) (all′ out′ : List ℕ) : Type 0 where
-  pub answered : answer ≡ answering e values source r (held live all .plain) s .shown .answer
-  pub next : held live′ all′ ≡ switch (answering e values source r (held live all .plain) s .next) (changed (changeOf (e .write) values) (live .password))
-  pub bytes : out′ ≡ placed (answering e values source r (held live all .plain) s .shown .sent) out
+abbrev pub handled : Answer → Password → Core → Handled
+handled answer password core = record { answer = answer; core = core; password = password }
 
-pub record Settles (asked : Asked) (live : Live) (all out : List ℕ) (answer : Answer) (live′ : Live) (all′ out′ : List ℕ) : Type 0 where
-  pub answered : answer ≡ settled (live .password) asked .shown .answer
-  pub next : held live′ all′ ≡ settled (live .password) asked .next
-  pub bytes : out′ ≡ placed (settled (live .password) asked .shown .sent) out
+-- A packet that is refused, and one that does not read.
+unfoldable pub unmoved : ℕ → Password → Core → List ℕ → Handled
+unmoved number w c all = handled (answerWith number (tally []) all c) w c
+
+unfoldable pub garbledBy : ℕ → Password → Core → List ℕ → Handled
+garbledBy number w c all = unmoved number w (signalled Black c) all
+
+-- What becomes of a switch, whatever its paddles are: they have no part in it.
+pub record Leads (to : List Paddle → Answered Plain Shown) (out : List ℕ) (h : Handled) (all′ out′ : List ℕ) : Type 0 where
+  pub answered : (ps : List Paddle) → h .answer ≡ to ps .shown .answer
+  pub next : (ps : List Paddle) → held (lived (h .password) (h .core) ps) all′ ≡ to ps .next
+  pub bytes : (ps : List Paddle) → out′ ≡ placed (to ps .shown .sent) out
+
+-- A packet that is received.
+abbrev pub Handles : List ℕ → Password → Core → List ℕ → List ℕ → Handled → List ℕ → List ℕ → Type 0
+Handles bytes w c all out = Leads (λ ps. respond (held (lived w c ps) all) (event (length out) (receive bytes))) out
+
+-- An order, settled as its job says.
+abbrev pub Orders : Order → ℕ → List ℕ → Password → Core → List ℕ → List ℕ → Handled → List ℕ → List ℕ → Type 0
+Orders o source values w c all out = Leads (λ ps. settled w (ordering o source values (plain all c ps))) out
+
+-- An act, answered as `answering` has it.
+abbrev pub Answers : Effect → List ℕ → ℕ → Reply → Seen → Password → List ℕ → List ℕ → Handled → List ℕ → List ℕ → Type 0
+Answers e values source r s w all out =
+    Leads (λ ps. answered (answering e values source r (plain all (e .core) ps) s) (changed (changeOf (e .write) values) w)) out
+
+-- Whether an order is refused: by its number, or by 14 where the guess is wrong.
+unfoldable pub verdictOn : Password → Password → Verdict
+verdictOn w guess = if matches w guess then Go else Stop 14
+
+unfoldable pub verdictOf : Order → Password → Verdict
+verdictOf (order.Refused n) w = Stop n
+verdictOf (order.Open guess) w = verdictOn w guess
+verdictOf order.Close w = Go
+verdictOf (order.Get first count) w = Go
+verdictOf (order.Set first) w = Go
+verdictOf (order.Activate i) w = Go
+verdictOf (order.Deactivate i) w = Go
+verdictOf (order.Goto level rate) w = Go
+verdictOf order.Stop w = Go
+verdictOf (order.Blink value) w = Go
+verdictOf order.Report w = Go
+verdictOf (order.Store i) w = Go
+
+-- What a granted order does.
+unfoldable pub effectOf : List ℕ → Order → Core → Effect
+effectOf all (order.Refused n) c = performed all (order.Refused n) c
+effectOf all (order.Open guess) c = opened c
+effectOf all order.Close c = performed all order.Close c
+effectOf all (order.Get first count) c = performed all (order.Get first count) c
+effectOf all (order.Set first) c = performed all (order.Set first) c
+effectOf all (order.Activate i) c = performed all (order.Activate i) c
+effectOf all (order.Deactivate i) c = performed all (order.Deactivate i) c
+effectOf all (order.Goto level rate) c = performed all (order.Goto level rate) c
+effectOf all order.Stop c = performed all order.Stop c
+effectOf all (order.Blink value) c = performed all (order.Blink value) c
+effectOf all order.Report c = performed all order.Report c
+effectOf all (order.Store i) c = performed all (order.Store i) c
 
 -- What start and restart share.
 pub record Wakes (w : Password) (all : List ℕ) (answer : Answer) (live′ : Live) (all′ : List ℕ) : Type 0 where
@@ -96,8 +153,9 @@ quiet (p ∷ ps) = none (gesture p) && quiet ps
 abbrev pub recognised : List Paddle → Bool → Recognised
 recognised paddles quiet = record { paddles = paddles; quiet = quiet }
 
--- A tick that completes no gesture, with the paddles after it.
-pub record Passes (live : Live) (paddles : List Paddle) (all : List ℕ) (answer : Answer) (live′ : Live) (all′ : List ℕ) : Type 0 where
-  pub answered : answer ≡ answerWith 0 (tally []) all′ (live′ .core)
-  pub next : live′ ≡ record { password = live .password; core = saved (aged (live .core)) .core; paddles = paddles }
-  pub registers : all′ ≡ applied (saved (aged (live .core)) .write) [] all
+-- A tick that completes no gesture and saves nothing: the core after it, and what is shown.
+unfoldable pub passedCore : Core → Core
+passedCore c = core (aged c .mode) (aged c .dimmer) (aged c .lamp) (less (c .save))
+
+unfoldable pub passed : List ℕ → Core → Passed
+passed all c = record { answer = answerWith 0 (tally []) all (passedCore c); core = passedCore c }

@@ -1,12 +1,11 @@
 -- What each event asks of the switch. Nothing here sees the password.
-use mathlib.Core.Bool.{Bool, true, false}
 use mathlib.Core.List.{List, [], _∷_, map}
 use Prim.Native.Nat.{ℕ, _%_}
 use lib.Dec.{ltb}
-use lib.ListN.{length, getD, set, drop}
+use lib.ListN.{getD, set, drop}
 use Rattle.words.specs.Words.{if_then_else_}
 use Rattle.units.specs.Units.{percentOf}
-use Rattle.vault.specs.Job.{Change, Job, Outcome, compare, done, nothing, outcome, reveal}
+use Rattle.vault.specs.Job.{Job, Outcome, compare, done, nothing, outcome, reveal}
 use Rattle.vault.specs.Vault.{inSetup}
 use Rattle.vault.specs.declared.Mode.{Mode}
 use Rattle.vault.specs.declared.Mode.the-variants.{Normal, Setup, Factory}
@@ -14,10 +13,9 @@ use Rattle.vault.specs.declared.Password.{Password}
 use Rattle.lamp.specs.Lamp.{blinked}
 use Rattle.lamp.specs.declared.Colour.{Colour}
 use Rattle.lamp.specs.declared.Colour.the-variants.{Black, Red, Green}
-use Rattle.packet.specs.Reading.{readOf, messageOf, numberOf}
+use Rattle.packet.specs.Reading.{readOf, messageOf}
 use Rattle.packet.specs.declared.Frame.{Frame}
 use Rattle.packet.specs.declared.Frame.the-variants as frame
-use Rattle.packet.specs.declared.Header.{Header}
 use Rattle.paddle.specs.Paddle.{fresh, pressed, released, gestureUp, next}
 use Rattle.paddle.specs.declared.Contact.{Contact}
 use Rattle.paddle.specs.declared.Contact.the-variants.{Local, Slave}

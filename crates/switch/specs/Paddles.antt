@@ -2,7 +2,7 @@
 use mathlib.Core.List.{List, [], _∷_, _++_}
 use Prim.Native.Nat.{ℕ, _+_}
 use Rattle.units.specs.Units.{percentOf}
-use Rattle.vault.specs.Job.{Byte, kept, put, Change, change, nothing}
+use Rattle.vault.specs.Job.{Byte, kept, put, Change, change}
 use Rattle.paddle.specs.Paddle.{gesture}
 use Rattle.paddle.specs.declared.Gesture.{Gesture}
 use Rattle.paddle.specs.declared.Paddle.{Paddle}

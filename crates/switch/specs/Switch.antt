@@ -1,21 +1,15 @@
 -- What a switch holds, what happens to it, and what it answers, as document 01 has it under "Events and time".
-use mathlib.Core.Path.{_≡_}
-use mathlib.Core.Bool.{Bool}
 use mathlib.Core.List.{List, [], _∷_}
 use Prim.Native.Nat.{ℕ}
 use lib.Dec.{eqb}
 use lib.ListN.{length, getD}
 use Rattle.words.specs.Words.{if_then_else_}
-use Rattle.dimmer.specs.Dimmer.{fresh as freshDimmer}
 use Rattle.lamp.specs.Lamp.{colour, output}
-use Rattle.lamp.specs.declared.Colour.the-variants.{Black}
 use Rattle.paddle.specs.Paddle.{fresh}
 use Rattle.paddle.specs.declared.Paddle.{Paddle}
 use Rattle.registers.specs.Places.{digitIn, lightIn}
 use Rattle.vault.specs.Vault.{password}
 use Rattle.vault.specs.Job.{Switch, switch}
-use Rattle.vault.specs.declared.Mode.the-variants.{Normal}
-use Rattle.acts.specs.Core.{started}
 use Rattle.acts.specs.declared.Core.{Core}
 use Rattle.switch.specs.declared.Answer.{Answer}
 use Rattle.switch.specs.declared.Sent.{Sent}

@@ -36,7 +36,7 @@ pub fn press(live: Live, all: &mut [u8; 256], contact: u8, out: &mut [u8]) -> Ou
     let password = live.password;
     let core = live.core;
     let before = live.paddles;
-    let paddles = pressed_at(contact, before);
+    let paddles = lower(contact, before);
     Outcome {
         answer: show(core, all, 0, Sent::none()),
         live: Live {
@@ -59,7 +59,7 @@ pub fn release(live: Live, all: &mut [u8; 256], contact: u8, out: &mut [u8]) -> 
     let password = live.password;
     let core = live.core;
     let before = live.paddles;
-    let edge = released_at(contact, before);
+    let edge = lift(contact, before);
     let gesture = edge.gesture;
     let after = paddles::turned(core, password, contact % 2, gesture, all);
     let note = after.note;
@@ -77,7 +77,7 @@ pub fn release(live: Live, all: &mut [u8; 256], contact: u8, out: &mut [u8]) -> 
     }
 }
 
-fn released_at(contact: u8, paddles: [Paddle; 2]) -> Edge
+pub fn lift(contact: u8, paddles: [Paddle; 2]) -> Edge
     ensures { λ r. ⌜ r ≡ edge (releasedAt contact paddles) (gestureAt contact paddles) ⌝ }
 {
     let mut next = paddles;
@@ -92,7 +92,7 @@ fn released_at(contact: u8, paddles: [Paddle; 2]) -> Edge
     }
 }
 
-fn pressed_at(contact: u8, paddles: [Paddle; 2]) -> [Paddle; 2]
+pub fn lower(contact: u8, paddles: [Paddle; 2]) -> [Paddle; 2]
     ensures { λ r. ⌜ r ≡ pressedAt contact paddles ⌝ }
 {
     let mut next = paddles;

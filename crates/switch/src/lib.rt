@@ -13,7 +13,7 @@ use vault::Mode;
 use vault::Password;
 
 pub mod edges;
-mod paddles;
+pub mod paddles;
 pub mod receive;
 pub mod start;
 pub mod tick;
@@ -84,7 +84,7 @@ impl Sent {
 }
 
 // What is shown of the switch as it stands.
-fn show(core: Core, all: &[u8; 256], number: u8, sent: Sent) -> Answer
+pub fn show(core: Core, all: &[u8; 256], number: u8, sent: Sent) -> Answer
     ensures { λ r. ⌜ r ≡ answerWith number sent (now (all .entry)) core ⌝ }
 {
     let mode = core.mode;

@@ -39,13 +39,13 @@ pub(crate) struct AfterAll {
 }
 
 // The paddles a tick later, and whether none of them completes a gesture in it.
-pub(crate) struct Recognised {
+pub struct Recognised {
     pub paddles: [Paddle; 2],
     pub quiet: bool,
 }
 
 // A paddle's tick depends on that paddle alone.
-pub(crate) fn recognise(paddles: [Paddle; 2]) -> Recognised
+pub fn recognise(paddles: [Paddle; 2]) -> Recognised
     ensures { λ r. ⌜ r ≡ recognised (map next paddles) (quiet paddles) ⌝ }
 {
     let mut after = paddles;

@@ -2,15 +2,15 @@
 ghost use mathlib.Core.Path.{_≡_};
 ghost use Prim.Native.Nat.{_≤_};
 ghost use lib.ListN.{length, drop};
-ghost use Rattle.switch.specs.Switch.{receive, held};
-ghost use Rattle.switch.specs.Events.{getting, hueOf, obeying, opening, ordering, replyTo, seenBy};
+ghost use Rattle.switch.specs.Switch.{receive};
+ghost use Rattle.switch.specs.Events.{hueOf, replyTo, seenBy};
 ghost use Rattle.switch.specs.Respond.{Responds};
-ghost use Rattle.switch.specs.Code.{Answers, Settles, garbledWith};
+ghost use Rattle.switch.specs.Code.{Answers, Handles, Orders, effectOf, garbledBy, unmoved, verdictOf, verdictOn};
+use crate::Answer;
 use crate::Live;
 use crate::Outcome;
 use crate::ROOM;
 use crate::Sent;
-use crate::edges::refused;
 use crate::show;
 use crate::signalled;
 use acts::Core;
@@ -25,37 +25,88 @@ use registers::write::apply;
 use vault::Mode;
 use vault::Password;
 
+// The answer to a packet, and what becomes of the core and the password. The paddles have no part in it.
+pub struct Handled {
+    pub answer: Answer,
+    pub core: Core,
+    pub password: Password,
+}
+
+// Whether an order is refused, its guess compared with the password, or granted.
+enum Verdict {
+    Stop(u8),
+    Go,
+}
+
 pub fn receive(live: Live, all: &mut [u8; 256], packet: &[u8], out: &mut [u8]) -> Outcome
     ensures { λ r. ⌜ Responds (receive (now (packet .entry))) live (now (all .entry)) (now (out .entry)) (r .answer) (r .live) (now (all .exit)) (now (out .exit)) ⌝ }
 {
-    if out.len() < ROOM {
-        return refused(live, all, 2);
-    }
-    let frame = packet::read(packet);
-    let Frame::Read(header) = frame else {
-        return garbled(live, all, frame.number());
-    };
-    let message = packet::message(packet);
-    let core = live.core;
-    let mode = core.mode;
-    let order = judge::judge(all, mode, header, message);
-    settle(live, all, order, header.source, values(message), out)
-}
-
-// A packet that does not read: the lamp blinks black, nothing else changes.
-fn garbled(live: Live, all: &[u8; 256], number: u8) -> Outcome
-    ensures { λ r. ⌜ r ≡ garbledWith number live (now (all .entry)) ⌝ }
-{
-    let password = live.password;
     let paddles = live.paddles;
-    let core = signalled(live.core, Colour::Black);
+    let handled = handle(live.core, live.password, all, packet, out);
+    let answer = handled.answer;
+    let core = handled.core;
+    let password = handled.password;
     Outcome {
-        answer: show(core, all, number, Sent::none()),
+        answer,
         live: Live {
             password,
             core,
             paddles,
         },
+    }
+}
+
+// A packet for whoever keeps the paddles apart.
+pub fn handle(
+    core: Core,
+    password: Password,
+    all: &mut [u8; 256],
+    packet: &[u8],
+    out: &mut [u8],
+) -> Handled
+    ensures { λ r. ⌜ Handles (now (packet .entry)) password core (now (all .entry)) (now (out .entry)) r (now (all .exit)) (now (out .exit)) ⌝ }
+{
+    if out.len() < ROOM {
+        return unmoved(core, password, all, 2);
+    }
+    let frame = packet::read(packet);
+    let Frame::Read(header) = frame else {
+        return garbled(core, password, all, frame.number());
+    };
+    let message = packet::message(packet);
+    let mode = core.mode;
+    let order = judge::judge(all, mode, header, message);
+    settle(
+        core,
+        password,
+        all,
+        order,
+        header.source,
+        values(message),
+        out,
+    )
+}
+
+// A refusal: all is shown and left as it stands.
+fn unmoved(core: Core, password: Password, all: &[u8; 256], number: u8) -> Handled
+    ensures { λ r. ⌜ r ≡ unmoved number password core (now (all .entry)) ⌝ }
+{
+    Handled {
+        answer: show(core, all, number, Sent::none()),
+        core,
+        password,
+    }
+}
+
+// A packet that does not read: the lamp blinks black, nothing else changes.
+fn garbled(core: Core, password: Password, all: &[u8; 256], number: u8) -> Handled
+    ensures { λ r. ⌜ r ≡ garbledBy number password core (now (all .entry)) ⌝ }
+{
+    let next = signalled(core, Colour::Black);
+    Handled {
+        answer: show(next, all, number, Sent::none()),
+        core: next,
+        password,
     }
 }
 
@@ -69,75 +120,58 @@ fn values(message: &[u8]) -> &[u8]
     &message[2..]
 }
 
-// The order by its kind. Only two see the password: a guess is compared with it, and a Get Registers in Setup shows it.
+// The order is granted or refused. Only two see the password: a guess is compared with it, and a Get Registers in Setup shows it.
 fn settle(
-    live: Live,
+    core: Core,
+    password: Password,
     all: &mut [u8; 256],
     order: Order,
     source: u8,
     values: &[u8],
     out: &mut [u8],
-) -> Outcome
+) -> Handled
     requires { ⌜ 48 ≤ length (now out) ⌝ }
-    ensures { λ r. ⌜ Settles (ordering order source (now (values .entry)) (held live (now (all .entry)) .plain)) live (now (all .entry)) (now (out .entry)) (r .answer) (r .live) (now (all .exit)) (now (out .exit)) ⌝ }
+    ensures { λ r. ⌜ Orders order source (now (values .entry)) password core (now (all .entry)) (now (out .entry)) r (now (all .exit)) (now (out .exit)) ⌝ }
+{
+    let verdict = verdict_of(order, password);
+    if let Verdict::Stop(number) = verdict {
+        return unmoved(core, password, all, number);
+    }
+    let mode = core.mode;
+    let effect = effect_of(core, all, order);
+    let reply = reply_to(order);
+    let seen = seen_by(mode, password);
+    answered(effect, password, all, values, source, reply, seen, out)
+}
+
+// A wrong password is refused by 14.
+fn verdict_of(order: Order, password: Password) -> Verdict
+    ensures { λ r. ⌜ r ≡ verdictOf order password ⌝ }
 {
     match order {
-        Order::Refused(number) => refused(live, all, number),
-        Order::Open(guess) => unlock(live, all, guess, out),
-        Order::Get { first, count } => get(live, all, first, count, source, out),
-        _ => obey(live, all, order, source, values, out),
+        Order::Refused(number) => Verdict::Stop(number),
+        Order::Open(guess) => opening(password, guess),
+        _ => Verdict::Go,
     }
 }
 
-// Any order that needs no password.
-fn obey(
-    live: Live,
-    all: &mut [u8; 256],
-    order: Order,
-    source: u8,
-    values: &[u8],
-    out: &mut [u8],
-) -> Outcome
-    requires { ⌜ 48 ≤ length (now out) ⌝ }
-    ensures { λ r. ⌜ Settles (obeying order source (now (values .entry)) (held live (now (all .entry)) .plain)) live (now (all .entry)) (now (out .entry)) (r .answer) (r .live) (now (all .exit)) (now (out .exit)) ⌝ }
+fn opening(password: Password, guess: Password) -> Verdict
+    ensures { λ r. ⌜ r ≡ verdictOn password guess ⌝ }
 {
-    let effect = perform(live.core, all, order);
-    let reply = reply_to(order);
-    answered(effect, live, all, values, source, reply, Seen::Hidden, out)
-}
-
-// Get Registers: the password is shown in Setup alone.
-fn get(live: Live, all: &mut [u8; 256], first: u8, count: u8, source: u8, out: &mut [u8]) -> Outcome
-    requires { ⌜ 48 ≤ length (now out) ⌝ }
-    ensures { λ r. ⌜ Settles (getting first count source (held live (now (all .entry)) .plain)) live (now (all .entry)) (now (out .entry)) (r .answer) (r .live) (now (all .exit)) (now (out .exit)) ⌝ }
-{
-    let core = live.core;
-    let mode = core.mode;
-    let seen = seen_by(mode, live.password);
-    let effect = perform(core, all, Order::Get { first, count });
-    let reply = Reply::Registers { first, count };
-    answered(effect, live, all, b"", source, reply, seen, out)
-}
-
-// Start Setup: the right password opens it, a wrong one is refused by 14.
-fn unlock(live: Live, all: &mut [u8; 256], guess: Password, out: &mut [u8]) -> Outcome
-    requires { ⌜ 48 ≤ length (now out) ⌝ }
-    ensures { λ r. ⌜ Settles (opening guess (held live (now (all .entry)) .plain)) live (now (all .entry)) (now (out .entry)) (r .answer) (r .live) (now (all .exit)) (now (out .exit)) ⌝ }
-{
-    let core = live.core;
-    if live.password.matches(guess) {
-        return answered(
-            core.opened(),
-            live,
-            all,
-            b"",
-            0,
-            Reply::Silence,
-            Seen::Hidden,
-            out,
-        );
+    if password.matches(guess) {
+        return Verdict::Go;
     }
-    refused(live, all, 14)
+    Verdict::Stop(14)
+}
+
+// What a granted order does: Start Setup opens.
+fn effect_of(core: Core, all: &[u8; 256], order: Order) -> Effect
+    ensures { λ r. ⌜ r ≡ effectOf (now (all .entry)) order core ⌝ }
+{
+    if let Order::Open(_) = order {
+        return core.opened();
+    }
+    perform(core, all, order)
 }
 
 fn seen_by(mode: Mode, password: Password) -> Seen
@@ -173,31 +207,27 @@ fn hue_of(reply: Reply) -> Colour
 // What is done is written, shown and answered.
 fn answered(
     effect: Effect,
-    live: Live,
+    password: Password,
     all: &mut [u8; 256],
     values: &[u8],
     source: u8,
     reply: Reply,
     seen: Seen,
     out: &mut [u8],
-) -> Outcome
+) -> Handled
     requires { ⌜ 48 ≤ length (now out) ⌝ }
-    ensures { λ r. ⌜ Answers effect (now (values .entry)) source reply seen live (now (all .entry)) (now (out .entry)) (r .answer) (r .live) (now (all .exit)) (now (out .exit)) ⌝ }
+    ensures { λ r. ⌜ Answers effect (now (values .entry)) source reply seen password (now (all .entry)) (now (out .entry)) r (now (all .exit)) (now (out .exit)) ⌝ }
 {
     let write = effect.write;
     apply(write, values, all);
-    let password = registers::write::password(write, values, live.password);
-    let paddles = live.paddles;
+    let next_password = registers::write::password(write, values, password);
     let core = signalled(effect.core, hue_of(reply));
     let dimmer = core.dimmer;
     let level = dimmer.level;
     let length = post::send(all, seen, source, reply, level.percent(), out);
-    Outcome {
+    Handled {
         answer: show(core, all, 0, Sent::none().with(length)),
-        live: Live {
-            password,
-            core,
-            paddles,
-        },
+        core,
+        password: next_password,
     }
 }

@@ -1,9 +1,11 @@
 // One tick, 1/240 second.
+ghost use mathlib.Core.Path.{_≡_};
 ghost use Prim.Native.Nat.{_≤_};
 ghost use lib.ListN.{length};
 ghost use Rattle.switch.specs.Switch.{tick};
-ghost use Rattle.switch.specs.Code.{Passes};
+ghost use Rattle.switch.specs.Code.{passed};
 ghost use Rattle.switch.specs.Respond.{Responds};
+use crate::Answer;
 use crate::Live;
 use crate::Outcome;
 use crate::ROOM;
@@ -12,8 +14,14 @@ use crate::edges::refused;
 use crate::paddles;
 use crate::show;
 use crate::signalled_on;
-use paddle::Paddle;
+use acts::Core;
 use registers::write;
+
+// What is shown of a tick that completes no gesture, and the core after it.
+pub struct Passed {
+    pub answer: Answer,
+    pub core: Core,
+}
 
 // In order: lamp and output timers, fade or blink, top paddle, bottom paddle, and the saved level. Most ticks complete no
 // gesture, and go the quick way.
@@ -23,32 +31,36 @@ pub fn tick(live: Live, all: &mut [u8; 256], out: &mut [u8]) -> Outcome
     if out.len() < ROOM {
         return refused(live, all, 2);
     }
+    let password = live.password;
+    let core = live.core;
     let before = live.paddles;
     let recognised = paddles::recognise(before);
-    let after = recognised.paddles;
-    if recognised.quiet {
-        return pass(live, after, all);
+    let paddles = recognised.paddles;
+    if recognised.quiet & (0 < core.save) {
+        let passed = pass(core, all);
+        let answer = passed.answer;
+        let next = passed.core;
+        return Outcome {
+            answer,
+            live: Live {
+                password,
+                core: next,
+                paddles,
+            },
+        };
     }
     turn(live, all, out)
 }
 
-// A tick that completes no gesture.
-fn pass(live: Live, paddles: [Paddle; 2], all: &mut [u8; 256]) -> Outcome
-    ensures { λ r. ⌜ Passes live paddles (now (all .entry)) (r .answer) (r .live) (now (all .exit)) ⌝ }
+// A tick that completes no gesture and saves nothing.
+pub fn pass(core: Core, all: &[u8; 256]) -> Passed
+    ensures { λ r. ⌜ r ≡ passed (now (all .entry)) core ⌝ }
 {
-    let password = live.password;
-    let core = live.core;
-    let effect = core.aged().saved();
-    let next = effect.core;
-    let write = effect.write;
-    write::apply(write, b"", all);
-    Outcome {
+    let mut next = core.aged();
+    next.save = timers::run(core.save);
+    Passed {
         answer: show(next, all, 0, Sent::none()),
-        live: Live {
-            password,
-            core: next,
-            paddles,
-        },
+        core: next,
     }
 }
 

@@ -23,8 +23,8 @@ returns-2 c =
     let a = c .before .before .before .before .before .args in
     press-unknown (a .contact) (a .live) (now (a .all)) (now (a .out)) (c .refused2 .result) (c .before .before .before .if1 .left) (c .before .before .if2 .taken) (c .refused2 .ensures)
 
-pressed-at-requires : tie.Need-pressed-at-requires
-pressed-at-requires c κs = search needs
+lower-requires : tie.Need-lower-requires
+lower-requires c κs = search needs
 
 none-requires : tie.Need-none-requires
 none-requires c κs = search needs
@@ -37,8 +37,8 @@ returns-3 c =
     let tests = c .before .before .before .before .before .before .before in
     let a = tests .before .before .before .args in
     let known : a .contact ≤ 3 = omega arith in
-    pressed-responds (a .contact) (a .live) (now (a .all)) (now (a .out)) (c .show .result) (c .before .before .before .pressed-at .result)
-    (tests .before .if1 .left) known (rw (← c .before .none .ensures) (c .show .ensures)) (c .before .before .before .pressed-at .ensures)
+    pressed-responds (a .contact) (a .live) (now (a .all)) (now (a .out)) (c .show .result) (c .before .before .before .lower .result)
+    (tests .before .if1 .left) known (rw (← c .before .none .ensures) (c .show .ensures)) (c .before .before .before .lower .ensures)
 
 pub press-spec : {M : Type 1} → statement M
 press-spec =
@@ -48,7 +48,7 @@ press-spec =
     returns
     refused-requires-2
     returns-2
-    pressed-at-requires
+    lower-requires
     none-requires
     show-requires
     returns-3)

@@ -24,8 +24,8 @@ returns-2 c =
     let a = c .before .before .before .before .before .args in
     release-unknown (a .contact) (a .live) (now (a .all)) (now (a .out)) (c .refused2 .result) (c .before .before .before .if1 .left) (c .before .before .if2 .taken) (c .refused2 .ensures)
 
-released-at-requires : tie.Need-released-at-requires
-released-at-requires c κs = search needs
+lift-requires : tie.Need-lift-requires
+lift-requires c κs = search needs
 
 turned-requires : tie.Need-turned-requires
 turned-requires c κs = search needs
@@ -51,9 +51,9 @@ returns-3 c =
     let tests = edge .before .before .before .before in
     let a = tests .before .before .before .args in
     let known : a .contact ≤ 3 = omega arith in
-    released-responds (a .contact) (a .live) (now (a .all)) (now (a .out)) (edge .released-at .result) (turned .turned .result .core) (blink .signalled-on .result) _ _
+    released-responds (a .contact) (a .live) (now (a .all)) (now (a .out)) (edge .lift .result) (turned .turned .result .core) (blink .signalled-on .result) _ _
     (turned .turned .result .note) (turned .turned .result .password) (lay .lay-note .result) (c .show .result)
-    (tests .before .if1 .left) known (edge .released-at .ensures) (turned .turned .ensures) (lay .lay-note .ensures) (blink .signalled-on .ensures) (c .show .ensures)
+    (tests .before .if1 .left) known (edge .lift .ensures) (turned .turned .ensures) (lay .lay-note .ensures) (blink .signalled-on .ensures) (c .show .ensures)
 
 pub release-spec : {M : Type 1} → statement M
 release-spec =
@@ -63,7 +63,7 @@ release-spec =
     returns
     refused-requires-2
     returns-2
-    released-at-requires
+    lift-requires
     turned-requires
     lay-note-requires
     signalled-on-requires

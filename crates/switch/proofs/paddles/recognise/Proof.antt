@@ -4,7 +4,7 @@ use native.Mathlib.Omega.{arith}
 use lib.ListN.{length}
 use borrow.Author.Needs.{needs}
 use Rattle.switch.proofs.Turning.{length-of-mapped}
-use Rattle.switch.proofs.Passing.{Recognising, recognising-begins, recognising-again, recognising-ends}
+use Rattle.switch.proofs.Quick.{Recognising, recognising-begins, recognising-again, recognising-ends}
 use Rattle.switch.proofs.paddles.recognise.Statement.{statement}
 use Rattle.switch.proofs.paddles.recognise.Tie as tie
 

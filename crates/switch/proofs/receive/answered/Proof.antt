@@ -1,5 +1,5 @@
-use borrow.Author.Needs.{needs}
 use Rattle.switch.proofs.Receiving.{answered-so}
+use borrow.Author.Needs.{needs}
 use Rattle.switch.proofs.receive.answered.Statement.{statement}
 use Rattle.switch.proofs.receive.answered.Tie as tie
 
@@ -35,9 +35,16 @@ same-length c = search needs
 
 returns : tie.Need-returns
 returns c =
-    answered-so _ _ _ _ _ _ _ _ _ _ _ _ _ _ _ _ _ _ (c .before .before .before .before .before .before .before .before .before .before .before .before .before .before .before .before .before .before .before .before .pre) (c .before .before .before .before .before .before .before .before .before .before .before .before .before .before .before .before .apply .ensures) (c .before .before .before .before .before .before .before .before .before .before .before .before .before .before .before .password .ensures)
-    (c .before .before .before .before .before .before .before .before .before .before .before .before .before .hue-of .ensures) (c .before .before .before .before .before .before .before .before .before .before .before .before .signalled .ensures) (c .before .before .before .before .before .before .before .before .percent .ensures) (c .before .before .before .before .before .before .send .ensures)
-    (c .before .before .none .ensures) (c .before .with .ensures) (c .show .ensures)
+    let none = c .before .before in
+    let send = none .before .before .before .before in
+    let percent = send .before .before in
+    let blink = percent .before .before .before .before in
+    let hue = blink .before in
+    let password = hue .before in
+    let apply = password .before in
+    let start = apply .before .before .before .before in
+    answered-so _ _ _ _ _ _ _ _ _ _ _ _ _ _ _ _ _ _ (start .pre) (apply .apply .ensures) (password .password .ensures) (hue .hue-of .ensures)
+    (blink .signalled .ensures) (percent .percent .ensures) (send .send .ensures) (none .none .ensures) (c .before .with .ensures) (c .show .ensures)
 
 pub answered-spec : {M : Type 1} → statement M
 answered-spec =

@@ -1,6 +1,6 @@
-use borrow.Author.Needs.{needs}
 use Rattle.words.proofs.Laws.{tests}
-use Rattle.switch.specs.Code.{garbledWith}
+use Rattle.switch.specs.Code.{garbledBy, unmoved}
+use borrow.Author.Needs.{needs}
 use Rattle.switch.proofs.receive.garbled.Statement.{statement}
 use Rattle.switch.proofs.receive.garbled.Tie as tie
 
@@ -14,7 +14,7 @@ show-requires : tie.Need-show-requires
 show-requires c κs = search needs
 
 returns : tie.Need-returns
-unfolding garbledWith
+unfolding garbledBy unmoved
 returns c = search (tests, c .show .ensures, c .before .none .ensures, c .before .before .signalled .ensures)
 
 pub garbled-spec : {M : Type 1} → statement M

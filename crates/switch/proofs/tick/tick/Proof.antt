@@ -1,8 +1,8 @@
 use denote.Ref.{now}
-use borrow.Author.Needs.{needs}
 use Rattle.switch.specs.Switch.{tick}
 use Rattle.switch.proofs.Laws.{responds-short}
-use Rattle.switch.proofs.Passing.{passed-responds}
+use Rattle.switch.proofs.Quick.{passed-responds}
+use borrow.Author.Needs.{needs}
 use Rattle.switch.proofs.tick.tick.Statement.{statement}
 use Rattle.switch.proofs.tick.tick.Tie as tie
 
@@ -22,11 +22,13 @@ pass-requires c κs = search needs
 
 returns-2 : tie.Need-returns-2
 returns-2 c =
-    let recognise = c .before .before .before .before in
-    let test = recognise .before .before in
-    let a = test .before .before .args in
-    passed-responds (a .live) (now (a .all)) (now (a .out)) _ (recognise .recognise .result) (c .pass .result .answer) (c .pass .result .live)
-    (test .if1 .left) (recognise .recognise .ensures) (c .before .before .if2 .taken) (c .pass .ensures)
+    let pass = c .before .before in
+    let test = pass .before .before in
+    let recognise = test .before .before .before .before in
+    let room = recognise .before .before .before .before in
+    let a = room .before .before .args in
+    passed-responds (a .live) (now (a .all)) (now (a .out)) (recognise .recognise .result) (pass .pass .result)
+    (room .if1 .left) (recognise .recognise .ensures) (test .if2 .taken) (pass .pass .ensures)
 
 turn-requires : tie.Need-turn-requires
 turn-requires c κs = search needs

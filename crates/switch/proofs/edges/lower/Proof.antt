@@ -1,8 +1,8 @@
 use borrow.Author.Needs.{needs}
 use Rattle.words.proofs.Laws.{tests}
 use Rattle.switch.specs.Events.{paddleOf, pressedAt}
-use Rattle.switch.proofs.edges.pressed_at.Statement.{statement}
-use Rattle.switch.proofs.edges.pressed_at.Tie as tie
+use Rattle.switch.proofs.edges.lower.Statement.{statement}
+use Rattle.switch.proofs.edges.lower.Tie as tie
 
 cast-i : tie.Need-cast-i
 cast-i c = search needs
@@ -29,8 +29,8 @@ returns : tie.Need-returns
 unfolding pressedAt paddleOf
 returns c = search (tests, c .press .ensures, c .before .kind .ensures)
 
-pub pressed-at-spec : {M : Type 1} → statement M
-pressed-at-spec =
+pub lower-spec : {M : Type 1} → statement M
+lower-spec =
     tie.close
     (tie.spec
     cast-i

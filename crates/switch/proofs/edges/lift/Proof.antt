@@ -1,8 +1,8 @@
 use borrow.Author.Needs.{needs}
 use Rattle.words.proofs.Laws.{tests}
 use Rattle.switch.specs.Events.{gestureAt, paddleOf, releasedAt}
-use Rattle.switch.proofs.edges.released_at.Statement.{statement}
-use Rattle.switch.proofs.edges.released_at.Tie as tie
+use Rattle.switch.proofs.edges.lift.Statement.{statement}
+use Rattle.switch.proofs.edges.lift.Tie as tie
 
 cast-i : tie.Need-cast-i
 cast-i c = search needs
@@ -29,8 +29,8 @@ returns : tie.Need-returns
 unfolding releasedAt gestureAt paddleOf
 returns c = search (tests, c .before .release .ensures, c .before .before .kind .ensures)
 
-pub released-at-spec : {M : Type 1} → statement M
-released-at-spec =
+pub lift-spec : {M : Type 1} → statement M
+lift-spec =
     tie.close
     (tie.spec
     cast-i

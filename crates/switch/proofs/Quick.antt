@@ -1,14 +1,19 @@
--- A tick that completes no gesture: the paddles' turns leave everything as it was, and the quick way is the whole way.
-use mathlib.Core.Path.{_≡_, refl, sym, ap, subst, _∙_}
+-- The quick ways: an event that completes no gesture, and a tick that saves nothing besides, run their counters and do nothing else.
+use mathlib.Core.Path.{_≡_, refl, sym, ap, _∙_}
 use mathlib.Core.Bool.{Bool, true, false, true≢false, _&&_}
 use mathlib.Core.List.{List, [], _∷_, map, append-nil}
-use Prim.Native.Nat.{ℕ, zero, suc, _+_, _≤_, _<_}
+use Prim.Native.Nat.{ℕ, suc, _+_, _≤_, _<_}
 use native.Mathlib.Numerals.{add-one}
-use lib.ListN.{length, getD, set, drop, take, drop-of-length-le}
+use native.Mathlib.Omega.{arith}
+use lib.Dec.{ltb}
+use lib.ListN.{length, getD, set, drop, drop-of-length-le}
 use lib.Seq.{drop-cons, take-all}
+use borrow.Author.Tests.{ltb-true, ne-eqb}
 use Rattle.words.proofs.Laws.{both}
+use Rattle.timers.specs.Timers.{turned as turnedAround}
 use Rattle.units.specs.declared.Percent.{Percent}
-use Rattle.vault.specs.Job.{nothing, changed, became}
+use Rattle.vault.specs.Job.{Answered, changed, became, settled, switch}
+use Rattle.vault.specs.Product
 use Rattle.vault.specs.declared.Mode.{Mode}
 use Rattle.vault.specs.declared.Mode.the-variants.{Normal, Setup, Factory}
 use Rattle.vault.specs.declared.Password.{Password}
@@ -20,21 +25,20 @@ use Rattle.paddle.specs.declared.Turn.{Turn}
 use Rattle.registers.specs.Places.{transmitIn}
 use Rattle.registers.specs.Registers.{valid}
 use Rattle.registers.specs.Write.{applied, changeOf, changeAt}
-use Rattle.acts.specs.Core.{aged, saved, unwritten}
+use Rattle.acts.specs.Core.{aged, saved, toSave, unwritten}
 use Rattle.acts.specs.declared.Core.{Core}
-use Rattle.acts.specs.declared.Effect.{Effect}
 use Rattle.acts.proofs.Laws.{nothing-acts}
 use Rattle.post.specs.Post.{announced, bytesOf, chosen, commandNumber, enveloped, gestureMessage, gestureNumber, placed}
-use Rattle.switch.specs.Switch.{tick, tally, answerWith}
-use Rattle.switch.specs.Paddles.{Moment, moment, after, turned, turns}
-use Rattle.switch.specs.Code.{noted, quiet, recognised, Passes, Sends, Stands, Turned, signalledOn}
-use Rattle.switch.specs.Respond.{Responds}
-use Rattle.switch.specs.declared.Answer.{Answer}
+use Rattle.switch.specs.Switch.{Plain, Shown, plain, press, release, tick, event, shown, answerOf}
+use Rattle.switch.specs.Paddles.{Moment, after, followed, over, turned, turns}
+use Rattle.switch.specs.Events.{begun, doing, finished, gestureAt, paddleOf, pressedAt, pressing, releasedAt, releasing, signalledBy, ticking}
+use Rattle.switch.specs.Code.{lived, passed, passedCore, quiet, recognised}
+use Rattle.switch.specs.Respond.{Responds, respond}
 use Rattle.switch.specs.declared.Live.{Live}
-use Rattle.switch.specs.declared.Sent.{Sent}
+use Rattle.switch.specs.declared.tick.Passed.{Passed}
 use Rattle.switch.specs.declared.paddles.Recognised.{Recognised}
 use Rattle.switch.proofs.Turning.{nothing-followed, ticked-by, ticked-next}
-use Rattle.switch.proofs.Finishing.{ticked-responds}
+use Rattle.switch.proofs.Laws.{enough-room, is-known}
 
 -- Nothing completed is no gesture, and sends nothing.
 nothing-done : (g : Gesture) → none g ≡ true → g ≡ Nothing
@@ -71,48 +75,63 @@ turns-quiet (p ∷ ps) i m h =
     let parts = both-hold (none (gesture p)) (quiet ps) h in
     rw (nothing-done (gesture p) (parts .0), turned-nothing i m) (turns-quiet ps (i + 1) m (parts .1))
 
-quiet-turned :
-    (ps : List Paddle) (all : List ℕ) (c : Core) (w : Password) → quiet ps ≡ true
-    → Turned (turns 0 ps (moment all c [] nothing)) w ps c all [] w (map next ps)
-unfolding noted changed became
-quiet-turned ps all c w h =
-    rw (turns-quiet ps 0 (moment all c [] nothing) h)
-    record { stands = record { core = refl; registers = refl; sent = refl; password = refl }; paddles = refl }
+-- A tick that saves nothing.
+unsaved : (c : Core) → 0 < c .save → saved (aged c) ≡ unwritten (passedCore c)
+unfolding saved toSave aged passedCore unwritten turnedAround
+unsaved c h = rw (ne-eqb (c .save) 0 (omega arith))
+
+-- Number 0, nothing sent, and the switch as it then is.
+abbrev pub plainly : Plain → Password → Answered Plain Shown
+plainly p w = record { shown = shown 0 [] p; next = switch p w }
+
+module _ (all : List ℕ) (c : Core) (ps : List Paddle) (w : Password) (room : ℕ) (enough : 48 ≤ room) where
+  pub quick-press :
+      (contact : ℕ) → contact ≤ 3
+      → respond (switch (plain all c ps) w) (event room (press contact)) ≡ plainly (plain all c (pressedAt contact ps)) w
+  unfolding Product.respond settled doing pressing finished signalledBy changed became
+  quick-press contact known =
+      let p = plain all c ps in
+      rw (enough-room p room (press contact) enough, is-known contact (pressing contact) p known)
+
+  pub quick-release :
+      (contact : ℕ) → contact ≤ 3 → none (gestureAt contact ps) ≡ true
+      → respond (switch (plain all c ps) w) (event room (release contact)) ≡ plainly (plain all c (releasedAt contact ps)) w
+  unfolding Product.respond settled doing releasing finished signalledBy changed became
+  quick-release contact known still =
+      let p = plain all c ps in
+      rw (
+        enough-room p room (release contact) enough,
+        is-known contact (releasing contact) p known,
+        nothing-done (gestureAt contact ps) still,
+        turned-nothing (paddleOf contact) (begun p c),
+      )
+
+  pub quick-tick :
+      0 < c .save → quiet ps ≡ true
+      → respond (switch (plain all c ps) w) (event room tick) ≡ plainly (plain all (passedCore c) (map next ps)) w
+  unfolding Product.respond settled doing ticking after unwritten applied changeOf changeAt followed over finished signalledBy changed became
+  quick-tick unsaving still =
+      let p = plain all c ps in
+      rw (enough-room p room tick enough, turns-quiet ps 0 (begun p (aged c)) still, unsaved c unsaving)
 
 -- The quick way of a tick, in code.
-pub passes :
-    (live : Live) (ps : List Paddle) (all all′ : List ℕ) (old : Core) (e : Effect) (sent : Sent) (answer : Answer)
-    → old ≡ aged (live .core)
-    → e ≡ saved old
-    → all′ ≡ applied (e .write) [] all
-    → sent ≡ tally []
-    → answer ≡ answerWith 0 sent all′ (e .core)
-    → Passes live ps all answer (record { password = live .password; core = e .core; paddles = ps }) all′
-passes live ps all all′ old e sent answer age save apply count shown =
-    record {
-      answered = shown ∙ rw count;
-      next = rw (save, age);
-      registers = apply ∙ rw (save, age);
-    }
-
 pub passed-responds :
-    (live : Live) (all out all′ : List ℕ) (r : Recognised) (answer : Answer) (live′ : Live)
+    (live : Live) (all out : List ℕ) (r : Recognised) (p : Passed)
     → 48 ≤ length out
     → r ≡ recognised (map next (live .paddles)) (quiet (live .paddles))
-    → r .quiet ≡ true
-    → Passes live (r .paddles) all answer live′ all′
-    → Responds tick live all out answer live′ all′ out
-unfolding noted tally signalledOn placed
-passed-responds live all out all′ r answer live′ room e still p =
-    let ps = live .paddles in
-    let old = aged (live .core) in
-    let calm : quiet ps ≡ true = ap (λ (x : Recognised). x .quiet) (sym e) ∙ still in
-    let same : live′ ≡ record { password = live .password; core = saved old .core; paddles = map next ps } =
-    p .next ∙ rw (ap (λ (x : Recognised). x .paddles) e) in
-    rw same
-    (ticked-responds live all out old old (saved old .core) all all′ out [] (live .password) (map next ps) (saved old) (tally []) answer
-    room refl (quiet-turned ps all old (live .password) calm) refl (p .registers)
-    (record { counted = refl; bytes = refl }) refl (p .answered ∙ rw same))
+    → (r .quiet && ltb 0 (live .core .save)) ≡ true
+    → p ≡ passed all (live .core)
+    → Responds tick live all out (p .answer) (lived (live .password) (p .core) (r .paddles)) all out
+unfolding passed answerOf placed
+passed-responds live all out r p room e taken f =
+    let parts = both-hold (r .quiet) (ltb 0 (live .core .save)) taken in
+    let still : quiet (live .paddles) ≡ true = ap (λ (x : Recognised). x .quiet) (sym e) ∙ parts .0 in
+    let quick = quick-tick all (live .core) (live .paddles) (live .password) (length out) room (ltb-true 0 (live .core .save) (parts .1)) still in
+    record {
+      answered = rw (quick, f);
+      next = rw (quick, f, e);
+      bytes = rw quick;
+    }
 
 -- Where the code stands when so many of the paddles are recognised.
 and-joined : (a b c : Bool) → ((a && b) && c) ≡ (a && (b && c))
