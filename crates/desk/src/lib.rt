@@ -1,0 +1,2 @@
+// The switch on the desk: what the lines of a script do to it.
+pub mod play;

@@ -1,0 +1,4 @@
+pub mod Reading
+pub mod ReadingPromises
+pub mod Writing
+pub mod Written

@@ -1,0 +1,146 @@
+-- What is written of each line of a script, and how it is laid on a page.
+use Prim.Native.Nat.{ℕ, zero, suc, _+_, _-_, _/_, _%_}
+use Prim.Native.Char.{code}
+use Prim.Native.String.{String, [] as stop, _∷_ as _then_}
+use mathlib.Core.Bool.{Bool, true, _&&_}
+use mathlib.Core.List.{List, [], _∷_, _++_}
+use lib.Dec.{ltb, eqb}
+use lib.ListN.{length, take, drop, set}
+use Rattle.words.specs.Words.{if_then_else_}
+use Rattle.lamp.specs.declared.Colour.{Colour}
+use Rattle.lamp.specs.declared.Colour.the-variants.{Black, Red, Green, Orange}
+use Rattle.vault.specs.declared.Mode.{Mode}
+use Rattle.vault.specs.declared.Mode.the-variants.{Normal, Setup, Factory}
+use Rattle.switch.specs.declared.Sent.{Sent}
+use Rattle.switch.specs.declared.Answer.{Answer}
+
+-- A page: lent bytes, and the place where the next one goes.
+pub record Page : Type 0 where
+  pub bytes : List ℕ
+  pub at : ℕ
+
+abbrev pub pageOf : List ℕ → ℕ → Page
+pageOf bytes at = record { bytes = bytes; at = at }
+
+-- One byte more. What has no room is left out.
+unfoldable pub put : ℕ → Page → Page
+put byte page =
+    if ltb (page .at) (length (page .bytes)) then pageOf (set (page .bytes) (page .at) byte) (page .at + 1)
+    else page
+
+-- A text, byte by byte.
+unfoldable pub puts : List ℕ → Page → Page
+puts [] page = page
+puts (byte ∷ text) page = puts text (put byte page)
+
+-- The bytes of a word: the codes of its letters.
+abbrev pub word : String → List ℕ
+word stop = []
+word (letter then letters) = code letter ∷ word letters
+
+-- "decimal": the digits of a number's tenth, where it has one, and then its last; most is how many there may be.
+unfoldable pub digitsUpTo : ℕ → ℕ → List ℕ
+digitsUpTo zero n = []
+digitsUpTo (suc most) n =
+    if ltb n 10 then (code "0" + n) ∷ []
+    else digitsUpTo most (n / 10) ++ (code "0" + n % 10) ∷ []
+
+-- No number has more digits than itself and one.
+unfoldable pub digits : ℕ → List ℕ
+digits n = digitsUpTo (suc n) n
+
+-- "lower-case hex": 0 to 9, then a to f.
+unfoldable pub hexDigit : ℕ → ℕ
+hexDigit n = if ltb n 10 then code "0" + n else code "a" + (n - 10)
+
+unfoldable pub hexOf : List ℕ → List ℕ
+hexOf [] = []
+hexOf (byte ∷ bytes) = hexDigit (byte / 16) ∷ hexDigit (byte % 16) ∷ hexOf bytes
+
+-- A word behind a space.
+unfoldable pub spaced : List ℕ → List ℕ
+spaced text = word " " ++ text
+
+-- "colour `black` `red` `green` `orange`"
+abbrev pub colourWord : Colour → List ℕ
+colourWord Black = word "black"
+colourWord Red = word "red"
+colourWord Green = word "green"
+colourWord Orange = word "orange"
+
+-- "mode `normal` `setup` `factory`"
+abbrev pub modeWord : Mode → List ℕ
+modeWord Normal = word "normal"
+modeWord Setup = word "setup"
+modeWord Factory = word "factory"
+
+-- "` LEVEL OUTPUT COLOUR MODE`", "level and output in steps, decimal"
+unfoldable pub state : Answer → List ℕ
+state a =
+    spaced (digits (a .level .0))
+    ++ (spaced (digits (a .output .0)) ++ (spaced (colourWord (a .colour)) ++ spaced (modeWord (a .mode))))
+
+-- "Packet 0 lies at byte 0 of the buffer, packet 1 at byte 24."
+abbrev pub packet0 : Sent → List ℕ → List ℕ
+packet0 sent out = take (sent .first) out
+
+abbrev pub packet1 : Sent → List ℕ → List ℕ
+packet1 sent out = take (sent .second) (drop 24 out)
+
+-- "SENT the sent packets in lower-case hex joined by `,`, or `-` where none was sent"
+unfoldable pub packets : Sent → List ℕ → List ℕ
+packets sent out =
+    if eqb (sent .count) 0 then word "-"
+    else if eqb (sent .count) 1 then hexOf (packet0 sent out)
+    else hexOf (packet0 sent out) ++ (word "," ++ hexOf (packet1 sent out))
+
+-- "a byte of the buffer outside the sent packets": what stands behind each in its place; one that was not sent has no bytes
+abbrev pub outside : Sent → List ℕ → List ℕ
+outside sent out = drop (sent .first) (take 24 out) ++ drop (sent .second) (drop 24 out)
+
+-- "The buffer is filled with 0xAA before every event."
+unfoldable pub untouched : List ℕ → Bool
+untouched [] = true
+untouched (byte ∷ bytes) = eqb byte 0xAA && untouched bytes
+
+-- "a last word ` spilt` where a byte of the buffer outside the sent packets is no longer 0xAA"
+unfoldable pub spilt : Sent → List ℕ → List ℕ
+spilt sent out = if untouched (outside sent out) then [] else word " spilt"
+
+-- "NUMBER COUNT LEN0 LEN1"
+unfoldable pub counts : ℕ → Sent → List ℕ
+counts number sent =
+    digits number ++ (spaced (digits (sent .count)) ++ (spaced (digits (sent .first)) ++ spaced (digits (sent .second))))
+
+-- "NUMBER COUNT LEN0 LEN1 LEVEL OUTPUT COLOUR MODE SENT"
+unfoldable pub row : Answer → List ℕ → List ℕ
+row a out =
+    counts (a .number) (a .sent) ++ (state a ++ (spaced (packets (a .sent) out) ++ spilt (a .sent) out))
+
+-- A line: its letter, a space, what it says, and its end.
+unfoldable pub line : ℕ → List ℕ → List ℕ
+line letter text = (letter ∷ word " ") ++ (text ++ word "\n")
+
+-- "`i NUMBER` and, when NUMBER is 0, ` LEVEL OUTPUT COLOUR MODE` behind it"
+unfoldable pub started : Answer → List ℕ
+started a = line (code "i") (if eqb (a .number) 0 then digits (a .number) ++ state a else digits (a .number))
+
+-- "For p, r, k, x: `E NUMBER COUNT LEN0 LEN1 LEVEL OUTPUT COLOUR MODE SENT`, E the letter"
+abbrev pub answered : ℕ → Answer → List ℕ → List ℕ
+answered letter a out = line letter (row a out)
+
+-- "`t*K LINE`, K the run's length, LINE from NUMBER on"
+unfoldable pub run : ℕ → List ℕ → List ℕ
+run ticks text = word "t*" ++ (digits ticks ++ (spaced text ++ word "\n"))
+
+-- "`d HEX`: the 256 registers in lower-case hex"
+abbrev pub dump : List ℕ → List ℕ
+dump image = line (code "d") (hexOf image)
+
+-- "An event, or d, with no switch prints `E none`"
+abbrev pub none : ℕ → List ℕ
+none letter = line letter (word "none")
+
+-- "`? LINE` with the line's number"
+abbrev pub unread : ℕ → List ℕ
+unread number = line (code "?") (digits number)

@@ -1,0 +1,274 @@
+// What is written of each line of a script, on a page: lent bytes, and the place where the next one goes. Each function answers
+// the place behind what it wrote; what has no room is left out.
+ghost use mathlib.Core.Path.{_≡_};
+ghost use Prim.Native.Nat.{_<_};
+ghost use mathlib.Core.List.{[], _∷_};
+ghost use lib.ListN.{take, drop};
+ghost use Rattle.line.specs.Writing.{pageOf, puts, word, digits, hexDigit, hexOf, spaced, colourWord, modeWord};
+ghost use Rattle.line.specs.Writing.{state, packets, outside, untouched, spilt, counts, row, started, answered, run, dump, none, unread};
+use lamp::Colour;
+use switch::Answer;
+use switch::Sent;
+use vault::Mode;
+
+// Packet 1 lies at this byte of the buffer.
+const PLACE: usize = 24;
+
+// What the buffer is filled with before every event.
+pub const FILL: u8 = 0xAA;
+
+// The answer to a start.
+pub fn started(page: &mut [u8], at: usize, answer: Answer) -> usize
+    ensures { λ r. ⌜ pageOf (now (page .exit)) r ≡ puts (started answer) (pageOf (now (page .entry)) at) ⌝ }
+{
+    let number = answer.number;
+    let letter = open(page, at, b'i');
+    let numbered = decimal(page, letter, number as u64);
+    if number == 0 {
+        let shown = state(page, numbered, answer);
+        return put(page, shown, b'\n');
+    }
+    put(page, numbered, b'\n')
+}
+
+// The answer to an event, by the letter of its line.
+pub fn answered(page: &mut [u8], at: usize, letter: u8, answer: Answer, out: &[u8]) -> usize
+    ensures { λ r. ⌜ pageOf (now (page .exit)) r ≡ puts (answered letter answer (now (out .entry))) (pageOf (now (page .entry)) at) ⌝ }
+{
+    let opened = open(page, at, letter);
+    let said = row(page, opened, answer, out);
+    put(page, said, b'\n')
+}
+
+// A run of ticks whose rows are equal.
+pub fn run(page: &mut [u8], at: usize, ticks: u64, row: &[u8]) -> usize
+    ensures { λ r. ⌜ pageOf (now (page .exit)) r ≡ puts (run ticks (now (row .entry))) (pageOf (now (page .entry)) at) ⌝ }
+{
+    let opened = text(page, at, b"t*");
+    let counted = decimal(page, opened, ticks);
+    let gap = put(page, counted, b' ');
+    let said = text(page, gap, row);
+    put(page, said, b'\n')
+}
+
+// An event, or a dump, with no switch.
+pub fn none(page: &mut [u8], at: usize, letter: u8) -> usize
+    ensures { λ r. ⌜ pageOf (now (page .exit)) r ≡ puts (none letter) (pageOf (now (page .entry)) at) ⌝ }
+{
+    let opened = open(page, at, letter);
+    let said = text(page, opened, b"none");
+    put(page, said, b'\n')
+}
+
+// A line that does not read, by its number.
+pub fn unread(page: &mut [u8], at: usize, number: u64) -> usize
+    ensures { λ r. ⌜ pageOf (now (page .exit)) r ≡ puts (unread number) (pageOf (now (page .entry)) at) ⌝ }
+{
+    let opened = open(page, at, b'?');
+    let said = decimal(page, opened, number);
+    put(page, said, b'\n')
+}
+
+// The registers.
+pub fn dump(page: &mut [u8], at: usize, image: &[u8; 256]) -> usize
+    ensures { λ r. ⌜ pageOf (now (page .exit)) r ≡ puts (dump (now (image .entry))) (pageOf (now (page .entry)) at) ⌝ }
+{
+    let opened = open(page, at, b'd');
+    let said = hex(page, opened, image);
+    put(page, said, b'\n')
+}
+
+// The answer to an event, from its number on and without the line's end.
+pub fn row(page: &mut [u8], at: usize, answer: Answer, out: &[u8]) -> usize
+    ensures { λ r. ⌜ pageOf (now (page .exit)) r ≡ puts (row answer (now (out .entry))) (pageOf (now (page .entry)) at) ⌝ }
+{
+    let sent = answer.sent;
+    let counted = counts(page, at, answer.number, sent);
+    let shown = state(page, counted, answer);
+    let gap = put(page, shown, b' ');
+    let listed = packets(page, gap, sent, out);
+    spilt(page, listed, sent, out)
+}
+
+// The number, and of the packets the count and each length.
+fn counts(page: &mut [u8], at: usize, number: u8, sent: Sent) -> usize
+    ensures { λ r. ⌜ pageOf (now (page .exit)) r ≡ puts (counts number sent) (pageOf (now (page .entry)) at) ⌝ }
+{
+    let numbered = decimal(page, at, number as u64);
+    let counted = spaced(page, numbered, sent.count as u64);
+    let first = spaced(page, counted, sent.first as u64);
+    spaced(page, first, sent.second as u64)
+}
+
+// Level, output, colour and mode.
+fn state(page: &mut [u8], at: usize, answer: Answer) -> usize
+    ensures { λ r. ⌜ pageOf (now (page .exit)) r ≡ puts (state answer) (pageOf (now (page .entry)) at) ⌝ }
+{
+    let colour = answer.colour;
+    let mode = answer.mode;
+    let level = spaced(page, at, answer.level.0 as u64);
+    let output = spaced(page, level, answer.output.0 as u64);
+    let coloured = colour_word(page, output, colour);
+    mode_word(page, coloured, mode)
+}
+
+fn colour_word(page: &mut [u8], at: usize, colour: Colour) -> usize
+    ensures { λ r. ⌜ pageOf (now (page .exit)) r ≡ puts (spaced (colourWord colour)) (pageOf (now (page .entry)) at) ⌝ }
+{
+    match colour {
+        Colour::Black => text(page, at, b" black"),
+        Colour::Red => text(page, at, b" red"),
+        Colour::Green => text(page, at, b" green"),
+        Colour::Orange => text(page, at, b" orange"),
+    }
+}
+
+fn mode_word(page: &mut [u8], at: usize, mode: Mode) -> usize
+    ensures { λ r. ⌜ pageOf (now (page .exit)) r ≡ puts (spaced (modeWord mode)) (pageOf (now (page .entry)) at) ⌝ }
+{
+    match mode {
+        Mode::Normal => text(page, at, b" normal"),
+        Mode::Setup => text(page, at, b" setup"),
+        Mode::Factory => text(page, at, b" factory"),
+    }
+}
+
+// The packets that lie in the buffer.
+fn packets(page: &mut [u8], at: usize, sent: Sent, out: &[u8]) -> usize
+    ensures { λ r. ⌜ pageOf (now (page .exit)) r ≡ puts (packets sent (now (out .entry))) (pageOf (now (page .entry)) at) ⌝ }
+{
+    if sent.count == 0 {
+        return put(page, at, b'-');
+    }
+    let first = hex(page, at, front(out, sent.first as usize));
+    if sent.count == 1 {
+        return first;
+    }
+    let comma = put(page, first, b',');
+    hex(page, comma, front(behind(out, PLACE), sent.second as usize))
+}
+
+fn spilt(page: &mut [u8], at: usize, sent: Sent, out: &[u8]) -> usize
+    ensures { λ r. ⌜ pageOf (now (page .exit)) r ≡ puts (spilt sent (now (out .entry))) (pageOf (now (page .entry)) at) ⌝ }
+{
+    if kept(sent, out) {
+        return at;
+    }
+    text(page, at, b" spilt")
+}
+
+// Whether all bytes outside the packets are as they were.
+fn kept(sent: Sent, out: &[u8]) -> bool
+    ensures { λ r. ⌜ r ≡ untouched (outside sent (now (out .entry))) ⌝ }
+{
+    if untouched(behind(front(out, PLACE), sent.first as usize)) {
+        return untouched(behind(behind(out, PLACE), sent.second as usize));
+    }
+    false
+}
+
+// It looks at every byte and has no way out before the end: a large buffer is looked through many bytes at a time.
+fn untouched(bytes: &[u8]) -> bool
+    ensures { λ r. ⌜ r ≡ untouched (now (bytes .entry)) ⌝ }
+{
+    let mut same = true;
+    let mut i = 0;
+    while i < bytes.len() {
+        same = same & (bytes[i] == FILL);
+        i += 1;
+    }
+    same
+}
+
+// The first n bytes, or all where there are fewer.
+pub fn front(bytes: &[u8], n: usize) -> &[u8]
+    ensures { λ r. ⌜ now r ≡ take n (now (bytes .entry)) ⌝ }
+{
+    if n < bytes.len() {
+        return &bytes[..n];
+    }
+    bytes
+}
+
+// What stands behind the first n bytes.
+fn behind(bytes: &[u8], n: usize) -> &[u8]
+    ensures { λ r. ⌜ now r ≡ drop n (now (bytes .entry)) ⌝ }
+{
+    if n < bytes.len() {
+        return &bytes[n..];
+    }
+    &bytes[..0]
+}
+
+// The letter of a line, and the space behind it.
+fn open(page: &mut [u8], at: usize, letter: u8) -> usize
+    ensures { λ r. ⌜ pageOf (now (page .exit)) r ≡ puts (letter ∷ word " ") (pageOf (now (page .entry)) at) ⌝ }
+{
+    let next = put(page, at, letter);
+    put(page, next, b' ')
+}
+
+// A number behind a space.
+fn spaced(page: &mut [u8], at: usize, n: u64) -> usize
+    ensures { λ r. ⌜ pageOf (now (page .exit)) r ≡ puts (spaced (digits n)) (pageOf (now (page .entry)) at) ⌝ }
+{
+    let next = put(page, at, b' ');
+    decimal(page, next, n)
+}
+
+// It calls itself once a digit.
+fn decimal(page: &mut [u8], at: usize, n: u64) -> usize
+    ensures { λ r. ⌜ pageOf (now (page .exit)) r ≡ puts (digits n) (pageOf (now (page .entry)) at) ⌝ }
+{
+    if n < 10 {
+        return put(page, at, b'0' + n as u8);
+    }
+    let next = decimal(page, at, n / 10);
+    put(page, next, b'0' + (n % 10) as u8)
+}
+
+fn hex(page: &mut [u8], at: usize, bytes: &[u8]) -> usize
+    ensures { λ r. ⌜ pageOf (now (page .exit)) r ≡ puts (hexOf (now (bytes .entry))) (pageOf (now (page .entry)) at) ⌝ }
+{
+    let mut next = at;
+    let mut i = 0;
+    while i < bytes.len() {
+        let byte = bytes[i];
+        let high = put(page, next, hex_digit(byte / 16));
+        next = put(page, high, hex_digit(byte % 16));
+        i += 1;
+    }
+    next
+}
+
+fn hex_digit(n: u8) -> u8
+    requires { ⌜ n < 16 ⌝ }
+    ensures { λ r. ⌜ r ≡ hexDigit n ⌝ }
+{
+    if n < 10 {
+        return b'0' + n;
+    }
+    b'a' + (n - 10)
+}
+
+fn text(page: &mut [u8], at: usize, bytes: &[u8]) -> usize
+    ensures { λ r. ⌜ pageOf (now (page .exit)) r ≡ puts (now (bytes .entry)) (pageOf (now (page .entry)) at) ⌝ }
+{
+    let mut next = at;
+    let mut i = 0;
+    while i < bytes.len() {
+        next = put(page, next, bytes[i]);
+        i += 1;
+    }
+    next
+}
+
+fn put(page: &mut [u8], at: usize, byte: u8) -> usize
+    ensures { λ r. ⌜ pageOf (now (page .exit)) r ≡ puts (byte ∷ []) (pageOf (now (page .entry)) at) ⌝ }
+{
+    if at < page.len() {
+        page[at] = byte;
+        return at + 1;
+    }
+    at
+}
