@@ -9,10 +9,8 @@ ghost use Rattle.line.specs.Writing.{state, packets, outside, untouched,
 use lamp::Colour;
 use switch::Answer;
 use switch::Sent;
+use switch::paddles::PLACE;
 use vault::Mode;
-
-// Packet 1 lies at this byte of the buffer.
-const PLACE: usize = 24;
 
 // What the buffer is filled with before every event.
 pub const FILL: u8 = 0xAA;

@@ -16,7 +16,7 @@ use paddle::Gesture;
 use paddle::Paddle;
 
 // Contacts are numbered from 0: local top, local bottom, slave top, slave bottom.
-const CONTACTS: u8 = 4;
+pub const CONTACTS: u8 = 4;
 
 // What an edge makes of the paddles, and the gesture that it completes.
 pub struct Edge {
@@ -77,7 +77,7 @@ pub fn release(live: Live, all: &mut [u8; 256], contact: u8, out: &mut [u8]) -> 
     }
 }
 
-pub fn lift(contact: u8, paddles: [Paddle; 2]) -> Edge
+fn lift(contact: u8, paddles: [Paddle; 2]) -> Edge
     ensures { λ r. ⌜ r ≡ edge (releasedAt contact paddles) (gestureAt contact paddles) ⌝ }
 {
     let mut next = paddles;
@@ -92,7 +92,7 @@ pub fn lift(contact: u8, paddles: [Paddle; 2]) -> Edge
     }
 }
 
-pub fn lower(contact: u8, paddles: [Paddle; 2]) -> [Paddle; 2]
+fn lower(contact: u8, paddles: [Paddle; 2]) -> [Paddle; 2]
     ensures { λ r. ⌜ r ≡ pressedAt contact paddles ⌝ }
 {
     let mut next = paddles;
@@ -101,7 +101,7 @@ pub fn lower(contact: u8, paddles: [Paddle; 2]) -> [Paddle; 2]
     next
 }
 
-fn kind(contact: u8) -> Contact
+pub fn kind(contact: u8) -> Contact
     ensures { λ r. ⌜ r ≡ kindOf contact ⌝ }
 {
     if contact < 2 {

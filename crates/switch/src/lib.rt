@@ -19,7 +19,7 @@ pub mod start;
 pub mod tick;
 
 // The least answer buffer: two places of 24.
-const ROOM: usize = 48;
+pub const ROOM: usize = 48;
 
 // All that a switch holds besides its registers. The paddles: 0 the top, 1 the bottom.
 pub struct Live {

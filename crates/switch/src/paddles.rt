@@ -21,7 +21,7 @@ use vault::Password;
 const PADDLES: usize = 2;
 
 // The bytes of one place of the answer buffer.
-const PLACE: usize = 24;
+pub const PLACE: usize = 24;
 
 // What a gesture leaves: the core and the password after it, and the note of what it sends.
 pub(crate) struct After {

@@ -18,7 +18,7 @@ use acts::Core;
 use registers::write;
 
 // What is shown of a tick that completes no gesture, and the core after it.
-pub struct Passed {
+struct Passed {
     pub answer: Answer,
     pub core: Core,
 }
@@ -53,7 +53,7 @@ pub fn tick(live: Live, all: &mut [u8; 256], out: &mut [u8]) -> Outcome
 }
 
 // A tick that completes no gesture and saves nothing.
-pub fn pass(core: Core, all: &[u8; 256]) -> Passed
+fn pass(core: Core, all: &[u8; 256]) -> Passed
     ensures { λ r. ⌜ r ≡ passed (now (all .entry)) core ⌝ }
 {
     let mut next = core.aged();

@@ -1,0 +1,18 @@
+use Rattle.words.proofs.Laws.{tests}
+use Rattle.host.specs.Mirror.{answerOf}
+use borrow.Author.Needs.{needs}
+use Rattle.host.proofs.mirror.answer_of.Statement.{statement}
+use Rattle.host.proofs.mirror.answer_of.Tie as tie
+
+colour-number-requires : tie.Need-colour-number-requires
+colour-number-requires c κs = search needs
+
+mode-number-requires : tie.Need-mode-number-requires
+mode-number-requires c κs = search needs
+
+returns : tie.Need-returns
+unfolding answerOf
+returns c = search (tests, c .mode-number .ensures, c .before .colour-number .ensures)
+
+pub answer-of-spec : {M : Type 1} → statement M
+answer-of-spec = tie.close (tie.spec colour-number-requires mode-number-requires returns)

@@ -1,0 +1,24 @@
+use Rattle.host.proofs.Laws.{speaks}
+use borrow.Author.Needs.{needs}
+use Rattle.host.proofs.whole.tick.Statement.{statement}
+use Rattle.host.proofs.whole.tick.Tie as tie
+
+live-of-requires : tie.Need-live-of-requires
+live-of-requires c κs = search needs
+
+tick-requires : tie.Need-tick-requires
+tick-requires c κs = search needs
+
+tell-requires : tie.Need-tell-requires
+tell-requires c κs = search needs
+
+same-length : tie.Need-same-length
+same-length c = search needs
+
+returns : tie.Need-returns
+returns c =
+    let event = c .before .before .before .before .before in
+    speaks _ _ _ _ _ _ _ _ _ _ _ _ (event .before .before .before .live-of .ensures) (event .tick .ensures) (c .tell .ensures)
+
+pub tick-spec : {M : Type 1} → statement M
+tick-spec = tie.close (tie.spec live-of-requires tick-requires tell-requires same-length returns)

@@ -1,0 +1,64 @@
+-- What the exported functions promise: they are the switch's own, in plain numbers.
+use mathlib.Core.List.{List}
+use mathlib.Core.Path.{_≡_}
+use Prim.Native.Nat.{ℕ}
+use lib.ListN.{length}
+use Rattle.vault.specs.Job.{Answered, Switch}
+use Rattle.post.specs.Post.{placed}
+use Rattle.switch.specs.Switch.{Deed, Plain, Shown, event, held}
+use Rattle.switch.specs.Respond.{respond, startAnswer, startNext}
+use Rattle.switch.specs.declared.Live.{Live}
+use Rattle.switch.specs.declared.Answer.{Answer as SwitchAnswer}
+use Rattle.switch.specs.declared.Outcome.{Outcome}
+use Rattle.host.specs.Mirror.{answerOf, liveOf, switchAnswer}
+use Rattle.host.specs.Keeping.{keptCounters, keptNumbers}
+use Rattle.host.specs.declared.Answer.{Answer}
+
+-- All that a switch holds besides its registers.
+abbrev pub inside : Switch Plain → Live
+inside s = record { password = s .password; core = s .plain .core; paddles = s .plain .paddles }
+
+-- What the switch that these numbers stand for answers to an event with so much room.
+abbrev pub responded : Deed → List ℕ → List ℕ → List ℕ → ℕ → Answered Plain Shown
+responded deed counters numbers all room = respond (held (liveOf counters numbers) all) (event room deed)
+
+-- What every event function promises: the answer, every counter, number and register, and every byte of the buffer are the switch's.
+pub record Speaks (deed : Deed) (counters numbers all out : List ℕ) (answer : Answer) (counters′ numbers′ all′ out′ : List ℕ) : Type 0 where
+  pub answered : answer ≡ answerOf (responded deed counters numbers all (length out) .shown .answer)
+  pub counted : counters′ ≡ keptCounters (inside (responded deed counters numbers all (length out) .next)) counters
+  pub numbered : numbers′ ≡ keptNumbers (inside (responded deed counters numbers all (length out) .next)) numbers
+  pub registers : all′ ≡ responded deed counters numbers all (length out) .next .plain .registers
+  pub bytes : out′ ≡ placed (responded deed counters numbers all (length out) .shown .sent) out
+
+-- What the start promises.
+pub record Begins (image counters numbers all : List ℕ) (answer : Answer) (counters′ numbers′ all′ : List ℕ) : Type 0 where
+  pub answered : answer ≡ answerOf (startAnswer image)
+  pub counted : counters′ ≡ keptCounters (inside (startNext image all)) counters
+  pub numbered : numbers′ ≡ keptNumbers (inside (startNext image all)) numbers
+  pub registers : all′ ≡ startNext image all .plain .registers
+
+-- An outcome of the switch, kept and told.
+pub record Tells (o : Outcome) (counters numbers : List ℕ) (answer : Answer) (counters′ numbers′ : List ℕ) : Type 0 where
+  pub answered : answer ≡ answerOf (o .answer)
+  pub counted : counters′ ≡ keptCounters (o .live) counters
+  pub numbered : numbers′ ≡ keptNumbers (o .live) numbers
+
+-- Into plain numbers and back is the identity, whatever stood there: on every switch of two paddles, and on every answer.
+pub record MirrorsBack : Type 0 where
+  pub live : (counters numbers : List ℕ) (l : Live) → length counters ≡ 11 → length numbers ≡ 14 → length (l .paddles) ≡ 2
+      → liveOf (keptCounters l counters) (keptNumbers l numbers) ≡ l
+  pub answer : (a : SwitchAnswer) → switchAnswer (answerOf a) ≡ a
+
+-- Keeping what was read leaves every number as it is.
+pub record KeepsWhatItRead : Type 0 where
+  pub counters : (counters numbers : List ℕ) → keptCounters (liveOf counters numbers) counters ≡ counters
+  pub numbers : (counters numbers : List ℕ) → keptNumbers (liveOf counters numbers) numbers ≡ numbers
+
+-- No two outcomes: what meets the contract of an event, or of the start, is one.
+pub record OneOutcome : Type 0 where
+  pub event : (deed : Deed) (counters numbers all out : List ℕ) (r s : Answer) (c c′ n n′ a a′ o o′ : List ℕ)
+      → Speaks deed counters numbers all out r c n a o → Speaks deed counters numbers all out s c′ n′ a′ o′
+      → (r ≡ s) × ((c ≡ c′) × ((n ≡ n′) × ((a ≡ a′) × (o ≡ o′))))
+  pub start : (image counters numbers all : List ℕ) (r s : Answer) (c c′ n n′ a a′ : List ℕ)
+      → Begins image counters numbers all r c n a → Begins image counters numbers all s c′ n′ a′
+      → (r ≡ s) × ((c ≡ c′) × ((n ≡ n′) × (a ≡ a′)))

@@ -1,0 +1,189 @@
+-- A switch in plain numbers: what the caller's counters and numbers are read as, and what an answer is told as.
+use mathlib.Core.Bool.{Bool, not}
+use mathlib.Core.List.{List, [], _∷_}
+use Prim.Native.Nat.{ℕ, _+_}
+use lib.Dec.{eqb}
+use lib.ListN.{getD}
+use Rattle.words.specs.Words.{if_then_else_}
+use Rattle.units.specs.Units.{step}
+use Rattle.vault.specs.Vault.{password}
+use Rattle.vault.specs.declared.Mode.{Mode}
+use Rattle.vault.specs.declared.Mode.the-variants.{Normal, Setup, Factory}
+use Rattle.vault.specs.declared.Password.{Password}
+use Rattle.dimmer.specs.Dimmer.{dimmer}
+use Rattle.dimmer.specs.declared.Dimmer.{Dimmer}
+use Rattle.dimmer.specs.declared.Motion.{Motion}
+use Rattle.dimmer.specs.declared.Motion.the-variants.{Idle, Fading, Blinking}
+use Rattle.lamp.specs.Lamp.{lamp}
+use Rattle.lamp.specs.declared.Colour.{Colour}
+use Rattle.lamp.specs.declared.Colour.the-variants.{Black, Red, Green, Orange}
+use Rattle.lamp.specs.declared.Lamp.{Lamp}
+use Rattle.paddle.specs.Paddle.{paddle}
+use Rattle.paddle.specs.declared.Paddle.{Paddle}
+use Rattle.acts.specs.Core.{core}
+use Rattle.acts.specs.declared.Core.{Core}
+use Rattle.switch.specs.declared.Live.{Live}
+use Rattle.switch.specs.declared.Answer.{Answer as SwitchAnswer}
+use Rattle.host.specs.declared.Answer.{Answer}
+
+-- A bool is 0 or 1; any other number is true.
+unfoldable pub truth : ℕ → Bool
+truth number = not (eqb number 0)
+
+unfoldable pub bit : Bool → ℕ
+bit flag = if flag then 1 else 0
+
+-- A mode is 0 Normal, 1 Setup, 2 Factory; any other number is Normal.
+unfoldable pub modeOf : ℕ → Mode
+modeOf number = if eqb number 1 then Setup else if eqb number 2 then Factory else Normal
+
+unfoldable pub modeNumber : Mode → ℕ
+modeNumber Normal = 0
+modeNumber Setup = 1
+modeNumber Factory = 2
+
+-- A colour is 0 black, 1 red, 2 green, 3 orange; any other number is black.
+unfoldable pub colourOf : ℕ → Colour
+colourOf number =
+    if eqb number 1 then Red
+    else if eqb number 2 then Green
+    else if eqb number 3 then Orange
+    else Black
+
+unfoldable pub colourNumber : Colour → ℕ
+colourNumber Black = 0
+colourNumber Red = 1
+colourNumber Green = 2
+colourNumber Orange = 3
+
+-- A motion's kind is 0 idle, 1 fading, 2 blinking; any other number is idle.
+unfoldable pub motionOf : ℕ → ℕ → ℕ → ℕ → Motion
+motionOf kind target period left =
+    if eqb kind 1 then Fading (step target) period left
+    else if eqb kind 2 then Blinking period left
+    else Idle
+
+unfoldable pub kindNumber : Motion → ℕ
+kindNumber Idle = 0
+kindNumber (Fading target period left) = 1
+kindNumber (Blinking period left) = 2
+
+-- Where each counter stands among the 11, and each number among the 14. Paddle 0 is the top, 1 the bottom.
+abbrev pub versionPlace : ℕ
+versionPlace = 0
+
+abbrev pub phasePlace : ℕ
+phasePlace = 1
+
+abbrev pub blinkPlace : ℕ
+blinkPlace = 2
+
+abbrev pub flashPlace : ℕ
+flashPlace = 3
+
+abbrev pub savePlace : ℕ
+savePlace = 4
+
+abbrev pub leftPlace : ℕ
+leftPlace = 5
+
+abbrev pub holdPlace : ℕ → ℕ
+holdPlace i = 6 + i
+
+abbrev pub gapPlace : ℕ → ℕ
+gapPlace i = 8 + i
+
+abbrev pub periodPlace : ℕ
+periodPlace = 10
+
+abbrev pub localPlace : ℕ → ℕ
+localPlace i = 0 + i
+
+abbrev pub slavePlace : ℕ → ℕ
+slavePlace i = 2 + i
+
+abbrev pub tapsPlace : ℕ → ℕ
+tapsPlace i = 4 + i
+
+abbrev pub levelPlace : ℕ
+levelPlace = 6
+
+abbrev pub kindPlace : ℕ
+kindPlace = 7
+
+abbrev pub modePlace : ℕ
+modePlace = 8
+
+abbrev pub huePlace : ℕ
+huePlace = 9
+
+abbrev pub lastPlace : ℕ
+lastPlace = 10
+
+abbrev pub targetPlace : ℕ
+targetPlace = 11
+
+abbrev pub firstPlace : ℕ
+firstPlace = 12
+
+abbrev pub secondPlace : ℕ
+secondPlace = 13
+
+-- All that a switch holds besides its registers, read part by part.
+unfoldable pub paddleOf : ℕ → List ℕ → List ℕ → Paddle
+paddleOf i counters numbers =
+    paddle (truth (getD numbers (localPlace i) 0)) (truth (getD numbers (slavePlace i) 0))
+    (getD counters (holdPlace i) 0) (getD counters (gapPlace i) 0) (getD numbers (tapsPlace i) 0)
+
+unfoldable pub paddlesOf : List ℕ → List ℕ → List Paddle
+paddlesOf counters numbers = paddleOf 0 counters numbers ∷ paddleOf 1 counters numbers ∷ []
+
+unfoldable pub dimmerOf : List ℕ → List ℕ → Dimmer
+dimmerOf counters numbers =
+    dimmer (step (getD numbers levelPlace 0)) (step (getD numbers lastPlace 0))
+    (motionOf (getD numbers kindPlace 0) (getD numbers targetPlace 0) (getD counters periodPlace 0) (getD counters leftPlace 0))
+
+unfoldable pub lampOf : List ℕ → List ℕ → Lamp
+lampOf counters numbers =
+    lamp (getD counters versionPlace 0) (getD counters phasePlace 0) (getD counters blinkPlace 0)
+    (colourOf (getD numbers huePlace 0)) (getD counters flashPlace 0)
+
+unfoldable pub coreOf : List ℕ → List ℕ → Core
+coreOf counters numbers =
+    core (modeOf (getD numbers modePlace 0)) (dimmerOf counters numbers) (lampOf counters numbers) (getD counters savePlace 0)
+
+unfoldable pub passwordOf : List ℕ → Password
+passwordOf numbers = password (getD numbers firstPlace 0) (getD numbers secondPlace 0)
+
+unfoldable pub liveOf : List ℕ → List ℕ → Live
+liveOf counters numbers =
+    record {
+      password = passwordOf numbers;
+      core = coreOf counters numbers;
+      paddles = paddlesOf counters numbers;
+    }
+
+-- An answer, and back.
+unfoldable pub answerOf : SwitchAnswer → Answer
+answerOf a =
+    record {
+      number = a .number;
+      count = a .sent .count;
+      first = a .sent .first;
+      second = a .sent .second;
+      level = a .level .0;
+      output = a .output .0;
+      colour = colourNumber (a .colour);
+      mode = modeNumber (a .mode);
+    }
+
+unfoldable pub switchAnswer : Answer → SwitchAnswer
+switchAnswer a =
+    record {
+      number = a .number;
+      sent = record { count = a .count; first = a .first; second = a .second };
+      level = step (a .level);
+      output = step (a .output);
+      colour = colourOf (a .colour);
+      mode = modeOf (a .mode);
+    }
