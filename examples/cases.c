@@ -1,0 +1,102 @@
+/* Cases (a) to (d) of document 01's "Numbers to test by", played through the library as a C program would: network 1, unit 5,
+ * level step 80, Normal, dimming capable. Prints a line for each and answers 0 only where all came out as the document has them. */
+#include <stdio.h>
+#include <string.h>
+
+#include "melszondru.h"
+
+static const uint8_t PASSWORD[2] = {0x12, 0x34};
+
+static struct melszondru_answer start(struct melszondru *s)
+{
+    uint8_t image[256] = {0};
+    memset(s, 0, sizeof *s);
+    image[0x00] = 1;
+    image[0x01] = 5;
+    memcpy(image + 0x02, PASSWORD, 2);
+    image[0x40] = 3;    /* the first receive component listens to link 3 */
+    image[0x8D] = 0x13; /* dimming capable, default rate 3 */
+    image[0xF9] = 40;   /* the saved percent: step 80 */
+    return melszondru_start(image, sizeof image, s->counters, s->numbers, s->registers);
+}
+
+static struct melszondru_answer receive(struct melszondru *s, const uint8_t *packet, size_t length, uint8_t out[48])
+{
+    memset(out, 0xAA, MELSZONDRU_ROOM);
+    return melszondru_receive(s->counters, s->numbers, s->registers, packet, length, out, MELSZONDRU_ROOM);
+}
+
+static int told(const char *what, int well)
+{
+    printf("%s: %s\n", what, well ? "ok" : "WRONG");
+    return well;
+}
+
+/* (a) A status report is answered by the percent. */
+static int case_a(void)
+{
+    static const uint8_t asks[] = {0x07, 0x00, 0x01, 0x05, 0x09, 0x30, 0xBA};
+    static const uint8_t tells[] = {0x08, 0x00, 0x01, 0x09, 0x05, 0x86, 0x28, 0x3B};
+    struct melszondru s;
+    uint8_t out[MELSZONDRU_ROOM];
+    int begun = start(&s).number == 0;
+    struct melszondru_answer a = receive(&s, asks, sizeof asks, out);
+    int rest = 1;
+    for (size_t i = sizeof tells; i < sizeof out; i++)
+        rest &= out[i] == 0xAA;
+    return told("(a) report status", begun && a.number == 0 && a.count == 1 && a.first == sizeof tells && a.second == 0
+                                         && memcmp(out, tells, sizeof tells) == 0 && rest);
+}
+
+/* (b) Goto on link 3 snaps to step 100. */
+static int case_b(void)
+{
+    static const uint8_t goes[] = {0x89, 0x00, 0x01, 0x03, 0x09, 0x22, 0x32, 0x00, 0x16};
+    struct melszondru s;
+    uint8_t out[MELSZONDRU_ROOM];
+    int before = start(&s).level;
+    struct melszondru_answer a = receive(&s, goes, sizeof goes, out);
+    return told("(b) goto by link", before == 80 && a.number == 0 && a.count == 0 && a.level == 100 && a.output == 100);
+}
+
+/* (c) The right password enters Setup. */
+static int case_c(void)
+{
+    static const uint8_t opens[] = {0x09, 0x00, 0x01, 0x05, 0x09, 0x03, 0x12, 0x34, 0x9F};
+    struct melszondru s;
+    uint8_t out[MELSZONDRU_ROOM];
+    int before = start(&s).mode;
+    struct melszondru_answer a = receive(&s, opens, sizeof opens, out);
+    return told("(c) right password", before == 0 && a.number == 0 && a.mode == 1);
+}
+
+/* (d) Each of the 65,535 others is 14, and nothing of the switch changes. */
+static int case_d(void)
+{
+    struct melszondru s, before;
+    uint8_t out[MELSZONDRU_ROOM];
+    unsigned refused = 0;
+    start(&s);
+    before = s;
+    for (unsigned guess = 0; guess < 65536; guess++) {
+        uint8_t packet[9] = {0x09, 0x00, 0x01, 0x05, 0x09, 0x03, (uint8_t)(guess >> 8), (uint8_t)guess, 0};
+        uint8_t sum = 0;
+        for (int i = 0; i < 8; i++)
+            sum += packet[i];
+        packet[8] = (uint8_t)-sum;
+        if (packet[6] == PASSWORD[0] && packet[7] == PASSWORD[1])
+            continue;
+        struct melszondru_answer a = receive(&s, packet, sizeof packet, out);
+        refused += a.number == 14 && a.mode == 0 && a.count == 0 && memcmp(&s, &before, sizeof s) == 0;
+    }
+    return told("(d) the 65,535 wrong passwords", refused == 65535);
+}
+
+int main(void)
+{
+    int well = case_a();
+    well &= case_b();
+    well &= case_c();
+    well &= case_d();
+    return well ? 0 : 1;
+}

@@ -1,0 +1,109 @@
+/* The proved switch, for C. Link target/staticlib/libhost.a, which `rt staticlib host` makes (x86-64 Linux).
+ *
+ * The caller keeps a switch in a struct melszondru and lends its three arrays to every call. Nothing is kept elsewhere: there is
+ * no heap, no global, no clock. Two switches are two structs.
+ *
+ * Every call answers, whatever the arguments hold. What is owed is what C itself asks: each array has its size, a pointer and its
+ * length belong together, and of the arrays, the packet and the buffer that one call is handed no two overlap. A null pointer
+ * with length 0 is an empty packet, buffer or image.
+ */
+#ifndef MELSZONDRU_H
+#define MELSZONDRU_H
+
+#include <stddef.h>
+#include <stdint.h>
+
+#ifdef __cplusplus
+extern "C" {
+#endif
+
+enum {
+    MELSZONDRU_COUNTERS = 11,
+    MELSZONDRU_NUMBERS = 14,
+    MELSZONDRU_REGISTERS = 256,
+    MELSZONDRU_ROOM = 48, /* the least buffer that an event takes: two places */
+    MELSZONDRU_PLACE = 24 /* where the second place begins */
+};
+
+/* All that a switch holds. Its arrays are written by melszondru_start and by the events, and by nobody else; they may be copied
+ * and put back as a whole. The password is in numbers[12] and numbers[13], and not among the registers: registers[2] and
+ * registers[3] are 0. */
+struct melszondru {
+    uint16_t counters[MELSZONDRU_COUNTERS];
+    uint8_t numbers[MELSZONDRU_NUMBERS];
+    uint8_t registers[MELSZONDRU_REGISTERS];
+};
+
+/* What an event is answered with.
+ *
+ * number   0 done
+ *          1 the image is not 256 bytes
+ *          2 the buffer is shorter than 48 bytes
+ *          3 the contact is above 3
+ *          4 the packet is under 7 bytes      5 over 24 bytes
+ *          6 its length field differs from the byte count
+ *          7 the sum of all its bytes is not 0 modulo 256
+ *          8 the reserved header bit is set
+ *          9 the network is neither 0 nor register 0x00
+ *         10 direct: the destination is neither 0 nor register 0x01; link: no matching component
+ *         11 the command is not listed
+ *         12 wrong argument count or register range
+ *         13 not permitted here
+ *         14 Start Setup with a wrong password
+ * count    the packets sent, 0 to 2; first and second their lengths, 0 where there is none
+ * level    the level in steps, 0 to 200; output what the output shows of it
+ * colour   the lamp: 0 black, 1 red, 2 green, 3 orange
+ * mode     0 Normal, 1 Setup, 2 Factory Default
+ *
+ * On a refusal (number above 0) count and lengths are 0, the rest shows the switch as it stands, and the switch is as it was,
+ * except that 4 to 8 start the lamp's black blink. */
+struct melszondru_answer {
+    uint8_t number;
+    uint8_t count;
+    uint8_t first;
+    uint8_t second;
+    uint8_t level;
+    uint8_t output;
+    uint8_t colour;
+    uint8_t mode;
+};
+
+/* What an event leaves in its buffer, out and room: the packets sent, the first in front, the second from byte 24 on. Every other
+ * byte keeps its value; a refusal changes none. */
+
+/* Starts a switch from a copy of the image. Answers 0 or 1; on 1 there is no switch, and registers keep their bytes. Counters and
+ * numbers are read too (a number that stands for what it should is left as it is), so clear the struct before its first start;
+ * what else it held does not matter. */
+struct melszondru_answer melszondru_start(const uint8_t *image, size_t length, uint16_t counters[MELSZONDRU_COUNTERS],
+                                          uint8_t numbers[MELSZONDRU_NUMBERS], uint8_t registers[MELSZONDRU_REGISTERS]);
+
+/* A press edge of a contact: 0 local top, 1 local bottom, 2 slave top, 3 slave bottom. Answers 0, 2 or 3; sends nothing. */
+struct melszondru_answer melszondru_press(uint16_t counters[MELSZONDRU_COUNTERS], uint8_t numbers[MELSZONDRU_NUMBERS],
+                                          uint8_t registers[MELSZONDRU_REGISTERS], uint8_t contact, uint8_t *out, size_t room);
+
+/* A release edge. Answers 0, 2 or 3; sends at most one packet. */
+struct melszondru_answer melszondru_release(uint16_t counters[MELSZONDRU_COUNTERS], uint8_t numbers[MELSZONDRU_NUMBERS],
+                                            uint8_t registers[MELSZONDRU_REGISTERS], uint8_t contact, uint8_t *out, size_t room);
+
+/* One tick, 1/240 second. Answers 0 or 2; sends at most two packets. */
+struct melszondru_answer melszondru_tick(uint16_t counters[MELSZONDRU_COUNTERS], uint8_t numbers[MELSZONDRU_NUMBERS],
+                                         uint8_t registers[MELSZONDRU_REGISTERS], uint8_t *out, size_t room);
+
+/* A received packet. Answers 0, 2 or 4 to 14; sends at most one packet, the reply. */
+struct melszondru_answer melszondru_receive(uint16_t counters[MELSZONDRU_COUNTERS], uint8_t numbers[MELSZONDRU_NUMBERS],
+                                            uint8_t registers[MELSZONDRU_REGISTERS], const uint8_t *packet, size_t length,
+                                            uint8_t *out, size_t room);
+
+/* A restart: the registers and the password stay, all else is as after a start. Answers 0 or 2; sends nothing. */
+struct melszondru_answer melszondru_restart(uint16_t counters[MELSZONDRU_COUNTERS], uint8_t numbers[MELSZONDRU_NUMBERS],
+                                            uint8_t registers[MELSZONDRU_REGISTERS], uint8_t *out, size_t room);
+
+/* The 256 registers for the owner to save, with the password among them. Fills image; changes nothing else. */
+void melszondru_image(const uint8_t numbers[MELSZONDRU_NUMBERS], const uint8_t registers[MELSZONDRU_REGISTERS],
+                      uint8_t image[MELSZONDRU_REGISTERS]);
+
+#ifdef __cplusplus
+}
+#endif
+
+#endif

@@ -1,0 +1,18 @@
+//! The logic of a wall dimmer: events in; level, lamp, mode, registers and
+//! packets out. `script` drives one switch from a text file.
+
+#![forbid(unsafe_code)]
+
+mod answer;
+mod commands;
+mod dimmer;
+mod gestures;
+mod lamp;
+mod packet;
+mod paddle;
+mod registers;
+pub mod script;
+mod switch;
+
+pub use answer::{Answer, Colour, Mode};
+pub use switch::Switch;
