@@ -64,7 +64,8 @@ pub extern "C" fn melszondru_start(
     tell(outcome, counters, numbers)
 }
 
-// A press that is answered 0 changes its paddle alone.
+// A press that is answered 0 changes its paddle alone. (The answer of the whole way goes by a local: returned as it comes, it would
+// be written in bytes and read back in one piece.)
 #[no_mangle]
 pub extern "C" fn melszondru_press(
     counters: &mut [u16; 11],
