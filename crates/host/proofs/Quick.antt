@@ -1,5 +1,5 @@
 -- The quick ways write what the whole way would: all else stands there already.
-use mathlib.Core.Bool.{Bool, true, false, true≢false, _&&_}
+use mathlib.Core.Bool.{Bool, true, false, true≢false}
 use mathlib.Core.List.{List, [], map}
 use mathlib.Core.Path.{_≡_, refl, sym, ap, _∙_}
 use Prim.Native.Nat.{ℕ, zero, suc, _+_, _%_, _≤_, _<_}
@@ -38,7 +38,7 @@ use Rattle.switch.specs.declared.Answer.{Answer as SwitchAnswer}
 use Rattle.switch.specs.declared.Sent.{Sent}
 use Rattle.switch.specs.declared.paddles.Recognised.{Recognised}
 use Rattle.switch.specs.declared.receive.Handled.{Handled}
-use Rattle.switch.proofs.Quick.{plainly, quick-press, quick-release, quick-tick}
+use Rattle.switch.proofs.Quick.{both-hold, plainly, quick-press, quick-release, quick-tick}
 use Rattle.host.specs.Mirror.{kindPlace, lastPlace, levelPlace, savePlace, targetPlace, motionOf, paddleOf, paddlesOf, dimmerOf, lampOf, coreOf, passwordOf, liveOf, answerOf}
 use Rattle.host.specs.Keeping.{kept, keptFlag, keptMode, keptHue, keptKind, keptCourse, keptTarget, keptTimers, keptRun, keptTimes, keptAllTimes, keptCounters}
 use Rattle.host.specs.Keeping.{keptPaddle, keptPaddles, keptPassword, keptDimmer, keptCore, keptNumbers, keptStep}
@@ -191,10 +191,6 @@ taps-stay p h = go (ends p) (down p) (eqb (p .taps) 0) refl h
 still-kept : (i : ℕ) (p : Paddle) (l : List ℕ) → none (gesture p) ≡ true → keptPaddle i (next p) l ≡ keptPaddle i p l
 unfolding keptPaddle next
 still-kept i p l h = rw (taps-stay p h)
-
-both-hold : (a b : Bool) → (a && b) ≡ true → (a ≡ true) × (b ≡ true)
-both-hold true b h = (refl, h)
-both-hold false b h = absurd (true≢false (sym h))
 
 quiet-kept :
     (counters numbers l : List ℕ) → quiet (paddlesOf counters numbers) ≡ true

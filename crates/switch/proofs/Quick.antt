@@ -63,11 +63,12 @@ unfolding turned after unwritten applied changeOf changeAt
 turned-nothing i m =
     rw (nothing-acts (m .registers) i (m .core), no-packet, append-nil (m .sent), nothing-followed (m .change))
 
--- The turns of quiet paddles.
-both-hold : (a b : Bool) → (a && b) ≡ true → (a ≡ true) × (b ≡ true)
+-- Both of two tests hold.
+pub both-hold : (a b : Bool) → (a && b) ≡ true → (a ≡ true) × (b ≡ true)
 both-hold true b h = (refl, h)
 both-hold false b h = absurd (true≢false (sym h))
 
+-- The turns of quiet paddles leave everything as it was.
 turns-quiet : (ps : List Paddle) (i : ℕ) (m : Moment) → quiet ps ≡ true → turns i ps m ≡ m
 unfolding turns quiet
 turns-quiet [] i m h = refl
