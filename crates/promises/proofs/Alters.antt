@@ -50,7 +50,7 @@ use Rattle.acts.specs.declared.Core.{Core}
 use Rattle.acts.specs.declared.Effect.{Effect}
 use Rattle.acts.specs.Orders
 use Rattle.acts.specs.Orders.{performed, storing}
-use Rattle.acts.proofs.Laws.{gesture-leads, gesture-writes, order-writes}
+use Rattle.acts.proofs.Laws.{gesture-writes, order-writes}
 use Rattle.registers.specs.declared.Seen.the-variants as seen
 use Rattle.post.specs.declared.Reply.the-variants as reply
 use Rattle.switch.specs.Switch.{Deed, Event, Plain, Shown, event, press, receive, release, restart, tick}
@@ -58,7 +58,10 @@ use Rattle.switch.specs.Paddles.{Moment, after, followed, over, turned, turns}
 use Rattle.switch.specs.Events.{Asked, answering, begun, doing, finished, garbled, gestureAt, getting, job, kindOf, known, obeyed, obeying, opening, ordering, paddleAt, paddleOf, pressing, reading, receiving, refused, releasing, restarting, signalled, signalledBy, ticking, woken}
 use Rattle.switch.specs.Respond.{respond}
 use Rattle.promises.specs.Bounds.{Sane}
-use Rattle.promises.specs.Alters.{Alters, Asks, Cause, EachWrite, FactorySet, Misses, OneEquation, OnlyCauses, OthersStay, PasswordSafe, SetAt, StoredAt, Writing, alone, byDeed, byteAt, byFrame, byOrder, byPaddles, bySaving, bytesAfter, five-taps, modeFor, no-write, restarted, right-guess, saved as saved-480th, set, stored, ten-taps, writesOf, writing}
+use Rattle.promises.specs.Modes.{modeFor}
+use Rattle.promises.specs.Numbers.{Asks}
+use Rattle.promises.specs.Alters.{Alters, Cause, EachWrite, FactorySet, Misses, OneEquation, OnlyCauses, OthersStay, PasswordSafe, SetAt, StoredAt, Writing, alone, byDeed, byteAt, byFrame, byOrder, byPaddles, bySaving, bytesAfter, five-taps, no-write, restarted, right-guess, saved as saved-480th, set, stored, ten-taps, writesOf, writing}
+use Rattle.promises.proofs.Modes.{turned-mode}
 
 -- ---- writes one after the other
 
@@ -144,10 +147,6 @@ turned-wrote i g m = record {
       followed-changed (m .change) (changeOf (acted (m .registers) i g (m .core) .write) []) w
       ∙ ap (λ (x : Write). changed (changeOf x []) (changed (m .change) w)) (gesture-writes (m .registers) i g (m .core));
 }
-
-pub turned-mode : (i : ℕ) (g : Gesture) (m : Moment) → turned i g m .core .mode ≡ leads (m .core .mode) g
-unfolding turned after
-turned-mode i g m = gesture-leads (m .registers) i g (m .core)
 
 turned-save : (i : ℕ) (g : Gesture) (m : Moment) → turned i g m .core .save ≡ m .core .save
 unfolding turned after
@@ -400,15 +399,15 @@ module _ (s : Switch Plain) where
   abbrev plainOf : Plain
   plainOf = s .plain
 
-  tick-causes : length (plainOf .paddles) ≡ 2 → (level : Step) → EachWrite (Cause s tick) (byDeed s level tick)
+  tick-causes : (level : Step) → EachWrite (Cause s tick) (byDeed s level tick)
   unfolding byDeed bySaving
-  tick-causes two level =
+  tick-causes level =
       each-joined (Cause s tick) (byPaddles (plainOf .core .mode) (plainOf .paddles)) _
       (each-paddle (Cause s tick) (plainOf .core .mode) (plainOf .paddles)
       (λ i under.
       gesture-cause (Cause s tick) (modeFor (plainOf .core .mode) (plainOf .paddles) i) (gesture (getD (plainOf .paddles) i fresh)) no-write
-      (λ finds taps. five-taps i (record { which = omega arith; taps = taps; finds = finds }))
-      (λ finds taps. ten-taps i (record { which = omega arith; taps = taps; finds = finds }))))
+      (λ finds taps. five-taps tick (record { ticked = refl; paddle = i; closes = record { there = under; taps = taps; finds = finds } }))
+      (λ finds taps. ten-taps i (record { there = under; taps = taps; finds = finds }))))
       (cases (λ (w : Write). Cause s tick (alone w)) (eqb (plainOf .core .save) 0) (λ e. saved-480th (percentOf level) (eqb-true _ 0 e)) (λ _. no-write), tt)
 
   module _ (bytes : List ℕ) (h : Header) (read : readOf bytes ≡ frame.Read h) where
@@ -420,7 +419,13 @@ module _ (s : Switch Plain) where
     order-causes (order.Refused n) e = tt
     order-causes (order.Open guess) e =
         cases (EachWrite (Cause s (receive bytes))) (matches (s .password) guess)
-        (λ m. (right-guess bytes guess (asking (order.Open guess) (asks (order.Open guess) _ _ h _ e)) (matches-equal (s .password) guess m), tt)) (λ _. tt)
+        (λ m. (
+          right-guess (receive bytes) (record {
+            start = record { bytes = bytes; guess = guess; received = refl; asks = asking (order.Open guess) (asks (order.Open guess) _ _ h _ e) };
+            right = matches-equal (s .password) guess m;
+          }),
+          tt,
+        )) (λ _. tt)
     order-causes order.Close e = tt
     order-causes (order.Get first count) e = tt
     order-causes (order.Set first) e = (set bytes first (asking (order.Set first) (asks (order.Set first) _ _ h _ e)), tt)
@@ -441,17 +446,17 @@ module _ (s : Switch Plain) where
   frame-causes bytes frame.Sum e = tt
   frame-causes bytes frame.Reserved e = tt
 
-  deed-causes : length (plainOf .paddles) ≡ 2 → (level : Step) (d : Deed) → EachWrite (Cause s d) (byDeed s level d)
+  deed-causes : (level : Step) (d : Deed) → EachWrite (Cause s d) (byDeed s level d)
   unfolding byDeed
-  deed-causes two level (press contact) = tt
-  deed-causes two level (release contact) = tt
-  deed-causes two level tick = tick-causes two level
-  deed-causes two level (receive bytes) = frame-causes bytes (readOf bytes) refl
-  deed-causes two level restart = (restarted, tt)
+  deed-causes level (press contact) = tt
+  deed-causes level (release contact) = tt
+  deed-causes level tick = tick-causes level
+  deed-causes level (receive bytes) = frame-causes bytes (readOf bytes) refl
+  deed-causes level restart = (restarted, tt)
 
 causes : OnlyCauses
 unfolding writesOf
-causes s e sane = both (EachWrite (Cause s (e .deed))) (ltb (e .room) 48) tt (deed-causes s (sane .paddles) _ (e .deed))
+causes s e sane = both (EachWrite (Cause s (e .deed))) (ltb (e .room) 48) tt (deed-causes s _ (e .deed))
 
 -- ---- the places that few can alter
 
@@ -469,9 +474,9 @@ module _ (s : Switch Plain) (place : ℕ) (P : ℕ → Type 0) (apart : Apart pl
   by-cause d byStore bySet byFactory w no-write n h = h
   by-cause d byStore bySet byFactory w restarted n h = rw (apart .counters Restarts) h
   by-cause d byStore bySet byFactory w (saved-480th percent e) n h = rw (apart .level) h
-  by-cause d byStore bySet byFactory w (five-taps i c) n h = rw (apart .counters Setups) h
+  by-cause d byStore bySet byFactory w (five-taps _ c) n h = rw (apart .counters Setups) h
   by-cause d byStore bySet byFactory w (ten-taps i c) n h = byFactory _ (record { paddle = i; event = refl; closes = c; byte = apart .factory n })
-  by-cause d byStore bySet byFactory w (right-guess bytes guess a e) n h = rw (apart .counters Setups) h
+  by-cause d byStore bySet byFactory w (right-guess _ c) n h = rw (apart .counters Setups) h
   by-cause d byStore bySet byFactory w (stored bytes i a) n h =
       cases P (eqb place (levelPlace i)) (λ e. byStore _ (record { bytes = bytes; component = i; packet = refl; asks = a; at = eqb-true place (levelPlace i) e; byte = refl })) (λ _. h)
   by-cause d byStore bySet byFactory w (set bytes first a) n h =

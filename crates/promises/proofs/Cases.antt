@@ -158,8 +158,11 @@ module _ (s : Switch Plain) (room : ℕ) (enough : 48 ≤ room) (bench : Bench s
   d-number other =
       numbers .exactly s (event room (receive packetC)) 14 .1
       (row-refused 14 enough
-      (wrong-password (header false 1 5 9) (password 0x12 0x34) (packet.sound packetC (header false 1 5 9) (reads .c))
-      (judge.asks (order.Open (password 0x12 0x34)) _ _ (header false 1 5 9) (messageOf packetC) judged-c) other))
+      (wrong-password (password 0x12 0x34) (record {
+        header = header false 1 5 9;
+        sound = packet.sound packetC (header false 1 5 9) (reads .c);
+        accepted = judge.asks (order.Open (password 0x12 0x34)) _ _ (header false 1 5 9) (messageOf packetC) judged-c;
+      }) other))
 
 e-number : (s : Switch Plain) (room : ℕ) → 48 ≤ room → numberAt s (event room (receive packetE)) ≡ 7
 e-number s room enough =

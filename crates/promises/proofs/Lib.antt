@@ -6,8 +6,11 @@ pub mod Jobs
 pub mod Numbers
 pub mod Cases
 pub mod Rivals
+pub mod Sequence
+pub mod Modes
 pub mod Opening
 pub mod Alters
-pub mod Presets
 pub mod Passing
+pub mod Reached
+pub mod Presets
 pub mod Clock

@@ -71,8 +71,8 @@ module _ (s : Switch Plain) where
   packet-only bytes n (wrong-sum g) = rw (packet.only frame.Sum bytes g)
   packet-only bytes n (reserved-bit g) = rw (packet.only frame.Reserved bytes g)
   packet-only bytes n (not-accepted h k so r) = rw (packet.only (frame.Read h) bytes so, judge.only (s .plain .registers) (s .plain .core .mode) h (order.Refused k) (messageOf bytes) r)
-  packet-only bytes n (wrong-password h guess so r ne) =
-      rw (packet.only (frame.Read h) bytes so, judge.only (s .plain .registers) (s .plain .core .mode) h (order.Open guess) (messageOf bytes) r)
+  packet-only bytes n (wrong-password guess a ne) =
+      rw (packet.only (frame.Read (a .header)) bytes (a .sound), judge.only (s .plain .registers) (s .plain .core .mode) (a .header) (order.Open guess) (messageOf bytes) (a .accepted))
       (wrong-guess (s .password) guess (s .plain) (mismatch (s .password) guess ne))
 
   packet-range : (bytes : List ℕ) (n : ℕ) → PacketRefused s bytes n → (4 ≤ n) × (n ≤ 14)
@@ -84,7 +84,7 @@ module _ (s : Switch Plain) where
   packet-range bytes n (not-accepted h k so r) =
       let i = judge.only-these k (s .plain .registers) (s .plain .core .mode) h (messageOf bytes) r in
       (omega arith, omega arith)
-  packet-range bytes n (wrong-password h guess so r ne) = omega arith
+  packet-range bytes n (wrong-password guess a ne) = omega arith
 
   -- A deed that is not done has its row.
   Found : Deed → ℕ → Type 0
@@ -97,7 +97,7 @@ module _ (s : Switch Plain) where
     order-found h so (order.Refused n) e source values = inr (not-accepted h n so (judge.asks (order.Refused n) _ _ h _ e))
     order-found h so (order.Open guess) e source values =
         cases (λ (o : Outcome Plain Shown). Found (receive bytes) (o .shown .answer .number)) (matches (s .password) guess) (λ m. inl refl)
-        (λ m. inr (wrong-password h guess so (judge.asks (order.Open guess) _ _ h _ e) (λ same. true≢false (sym (equal-matches (s .password) guess same) ∙ m))))
+        (λ m. inr (wrong-password guess (record { header = h; sound = so; accepted = judge.asks (order.Open guess) _ _ h _ e }) (λ same. true≢false (sym (equal-matches (s .password) guess same) ∙ m))))
     order-found h so order.Close e source values = inl refl
     order-found h so (order.Get first count) e source values =
         both (λ (j : Asked). Found (receive bytes) (numberIn (s .password) j)) (inSetup (s .plain .core .mode)) (inl refl) (inl refl)
@@ -183,8 +183,8 @@ fourteen-packet s bytes n (reserved-bit g) e = absurd (omega arith)
 fourteen-packet s bytes n (not-accepted h k so r) e =
     let i = judge.only-these k (s .plain .registers) (s .plain .core .mode) h (messageOf bytes) r in
     absurd (omega arith)
-fourteen-packet s bytes n (wrong-password h guess so r ne) e =
-    record { start = record { bytes = bytes; header = h; guess = guess; received = refl; sound = so; accepted = r }; wrong = ne }
+fourteen-packet s bytes n (wrong-password guess a ne) e =
+    record { start = record { bytes = bytes; guess = guess; received = refl; asks = a }; wrong = ne }
 
 fourteen-deed : (s : Switch Plain) (d : Deed) (n : ℕ) → DeedRefused s d n → n ≡ 14 → WrongGuess s d
 fourteen-deed s (press contact) n r e = absurd (omega arith)
@@ -196,7 +196,7 @@ fourteen-deed s restart n r e = absurd r
 wrong-guess-refused : (s : Switch Plain) (d : Deed) → WrongGuess s d → DeedRefused s d 14
 wrong-guess-refused s d w =
     let g = w .start in
-    subst (λ (d : Deed). DeedRefused s d 14) (sym (g .received)) (wrong-password (g .header) (g .guess) (g .sound) (g .accepted) (w .wrong))
+    subst (λ (d : Deed). DeedRefused s d 14) (sym (g .received)) (wrong-password (g .guess) (g .asks) (w .wrong))
 
 fourteen : FourteenExactly
 fourteen s e = (λ z. go (numberAt s e) (row s e) z, λ w. row-only s e 14 (row-refused 14 (w .0) (wrong-guess-refused s (e .deed) (w .1))))

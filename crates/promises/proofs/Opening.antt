@@ -3,17 +3,16 @@ use mathlib.Core.Bool.{Bool, true, false, true≢false, false≢true}
 use mathlib.Core.List.{List, [], _∷_}
 use mathlib.Core.Logic.{_⊎_, inl, inr, ⊎-elim}
 use mathlib.Core.Path.{_≡_, refl, sym, ap, _∙_, subst}
-use Prim.Native.Nat.{ℕ, suc, _+_, _≤_, _<_}
-use native.Mathlib.Omega.{arith}
-use borrow.Author.Tests.{eqb-true, ltb-false}
-use lib.Dec.{eqb, ltb}
-use lib.ListN.{drop, getD, length, take}
+use Prim.Native.Nat.{ℕ, _≤_}
+use borrow.Author.Tests.{ltb-false}
+use lib.Dec.{ltb}
+use lib.ListN.{drop, length}
 use Rattle.words.proofs.Laws.{both, cases}
 use Rattle.vault.specs.Job.{Outcome, Switch, answered, settled}
 use Rattle.vault.specs.Product
 use Rattle.vault.specs.Vault.{inSetup, matches}
 use Rattle.vault.specs.declared.Mode.{Mode}
-use Rattle.vault.specs.declared.Mode.the-variants.{Normal, Setup, Factory}
+use Rattle.vault.specs.declared.Mode.the-variants.{Normal, Setup}
 use Rattle.vault.specs.declared.Password.{Password}
 use Rattle.vault.proofs.Laws.{equal-matches, matches-equal, respond-right}
 use Rattle.packet.specs.Layout.{packed}
@@ -24,10 +23,6 @@ use Rattle.packet.specs.declared.Frame.the-variants as frame
 use Rattle.packet.specs.declared.Header.{Header}
 use Rattle.packet.proofs.Laws as packet
 use Rattle.packet.proofs.Inverse.{reads-back}
-use Rattle.paddle.specs.Paddle.{ending, fresh, gesture, gestureUp, goesUp, moved}
-use Rattle.paddle.specs.declared.Contact.{Contact}
-use Rattle.paddle.specs.declared.Gesture.{Gesture}
-use Rattle.paddle.specs.declared.Gesture.the-variants.{Nothing, Taps, Hold, Release}
 use Rattle.paddle.specs.declared.Paddle.{Paddle}
 use Rattle.registers.specs.Places.{networkIn, unitIn}
 use Rattle.registers.specs.declared.Seen.the-variants as seen
@@ -36,77 +31,20 @@ use Rattle.judge.specs.Promises.{NotFor}
 use Rattle.judge.specs.declared.Order.{Order}
 use Rattle.judge.specs.declared.Order.the-variants as order
 use Rattle.judge.proofs.Laws as judge
-use Rattle.acts.specs.Core.{aged, entering, opened, saved, started}
-use Rattle.acts.specs.Gestures
+use Rattle.acts.specs.Core.{entering, opened, started}
 use Rattle.acts.specs.Orders.{performed}
 use Rattle.acts.specs.Orders
-use Rattle.acts.specs.declared.Core.{Core}
-use Rattle.acts.proofs.Laws.{gesture-leads, order-leads}
+use Rattle.acts.proofs.Laws.{order-leads}
 use Rattle.post.specs.declared.Reply.the-variants as reply
 use Rattle.switch.specs.Switch.{Deed, Plain, Shown, answerOf, answerWith, event, press, receive, release, restart, tick}
-use Rattle.switch.specs.Paddles.{Moment, after, turned, turns}
-use Rattle.switch.specs.Events.{Asked, answering, begun, doing, finished, garbled, gestureAt, getting, job, known, obeyed, obeying, opening as opens, ordering, paddleOf, pressing, reading, receiving, refused, releasing, restarting, signalled, signalledBy, ticking, woken}
+use Rattle.switch.specs.Paddles.{Moment, turned}
+use Rattle.switch.specs.Events.{Asked, answering, begun, doing, finished, garbled, gestureAt, getting, job, known, obeyed, obeying, opening as opens, ordering, paddleOf, pressing, reading, receiving, refused, releasing, restarting, signalled, ticking, woken}
 use Rattle.switch.specs.Respond.{respond, wallSwitch}
 use Rattle.promises.specs.Demand3.{Outside}
 use Rattle.promises.specs.Numbers.{numberAt}
 use Rattle.promises.specs.Opening.{ByFiveTaps, ByPassword, OnlySo, Opening, PasswordOpens, startSetup}
 use Rattle.promises.proofs.Jobs.{receive-job}
-
--- A gesture leads into Setup only as five taps in Normal.
-leads-open : (mode : Mode) (g : Gesture) → inSetup mode ≡ false → inSetup (Gestures.leads mode g) ≡ true → (mode ≡ Normal) × (g ≡ Taps 5)
-unfolding Gestures.leads inSetup
-leads-open Normal Nothing out = λ to. absurd (false≢true to)
-leads-open Normal (Taps n) out =
-    cases (λ (m : Mode). inSetup m ≡ true → (Normal ≡ Normal) × (Taps n ≡ Taps 5)) (eqb n 5) (λ e to. (refl, ap Taps (eqb-true n 5 e))) (λ e to. absurd (false≢true to))
-leads-open Normal Hold out = λ to. absurd (false≢true to)
-leads-open Normal Release out = λ to. absurd (false≢true to)
-leads-open Setup g out = absurd (true≢false out)
-leads-open Factory Nothing out = λ to. absurd (false≢true to)
-leads-open Factory (Taps n) out =
-    cases (λ (m : Mode). inSetup m ≡ true → (Factory ≡ Normal) × (Taps n ≡ Taps 5)) (eqb n 2) (λ e to. absurd (false≢true to)) (λ e to. absurd (false≢true to))
-leads-open Factory Hold out = λ to. absurd (false≢true to)
-leads-open Factory Release out = λ to. absurd (false≢true to)
-
-turned-mode : (i : ℕ) (g : Gesture) (m : Moment) → turned i g m .core .mode ≡ Gestures.leads (m .core .mode) g
-unfolding turned after
-turned-mode i g m = gesture-leads (m .registers) i g (m .core)
-
--- In a tick, the first paddle that leads into Setup closes five taps and finds Normal.
-record First (i : ℕ) (ps : List Paddle) (m : Moment) : Type 0 where
-  number : ℕ
-  there : number < length ps
-  five : gesture (getD ps number fresh) ≡ Taps 5
-  finds : turns i (take number ps) m .core .mode ≡ Normal
-
-first : (i : ℕ) (ps : List Paddle) (m : Moment) → inSetup (m .core .mode) ≡ false → inSetup (turns i ps m .core .mode) ≡ true → First i ps m
-unfolding turns
-first i [] m out to = absurd (true≢false (sym to ∙ out))
-first i (p ∷ ps) m out to =
-    let m′ = turned i (gesture p) m in
-    go (inSetup (m′ .core .mode)) refl (λ e. first (i + 1) ps m′ e to)
-  where
-    go : (b : Bool) → inSetup (turned i (gesture p) m .core .mode) ≡ b
-        → (inSetup (turned i (gesture p) m .core .mode) ≡ false → First (i + 1) ps (turned i (gesture p) m)) → First i (p ∷ ps) m
-    go true e later =
-        let l = leads-open (m .core .mode) (gesture p) out (sym (ap inSetup (turned-mode i (gesture p) m)) ∙ e) in
-        record { number = 0; there = omega arith; five = l .1; finds = l .0 }
-    go false e later =
-        let f = later e in
-        record { number = suc (f .number); there = omega (arith, f .there); five = f .five; finds = f .finds }
-
--- A release edge completes no taps.
-no-taps : (c : Contact) (p : Paddle) (n : ℕ) → gestureUp c p ≡ Taps n → ⊥
-unfolding gestureUp ending
-no-taps c p n =
-    let Other : Gesture → Type 0 = λ g. g ≡ Taps n → ⊥ in
-    both Other (goesUp c p) (both Other (eqb (moved c false p .hold) 0) (λ e. let z : _≡_ {A = ℕ} 0 1 = cc in omega arith) (λ e. let z : _≡_ {A = ℕ} 0 1 = cc in omega arith))
-    (λ e. let z : _≡_ {A = ℕ} 0 1 = cc in omega arith)
-
--- The lamp's blink leaves the mode alone.
-blink-mode : (sent : List (List ℕ)) (c : Core) → signalledBy sent c .mode ≡ c .mode
-unfolding signalledBy signalled
-blink-mode [] c = refl
-blink-mode (p ∷ sent) c = refl
+use Rattle.promises.proofs.Modes.{leads-open, no-taps, opened as opened-by, signalled-mode, tick-mode, turned-mode}
 
 module _ (s : Switch Plain) (out : Outside s) where
   -- A job that leaves Setup does so in one of the two ways.
@@ -124,7 +62,7 @@ module _ (s : Switch Plain) (out : Outside s) where
 
   finished-leads : (d : Deed) (m : Moment) (paddles : List Paddle) → Leaves d (m .core .mode) → Leads d (finished m paddles)
   unfolding finished settled
-  finished-leads d m paddles l to = l (sym (ap inSetup (blink-mode (m .sent) (m .core))) ∙ to)
+  finished-leads d m paddles l to = l (sym (ap inSetup (signalled-mode (m .sent) (m .core))) ∙ to)
 
   release-leads : (contact : ℕ) → Leads (release contact) (releasing contact (s .plain))
   unfolding releasing gestureAt
@@ -135,13 +73,9 @@ module _ (s : Switch Plain) (out : Outside s) where
       (λ to. absurd (no-taps _ _ 5 (leads-open (s .plain .core .mode) g out (sym (ap inSetup (turned-mode (paddleOf contact) g m)) ∙ to) .1)))
 
   tick-leads : Leads tick (ticking (s .plain))
-  unfolding ticking after saved aged
-  tick-leads =
-      let m = turns 0 (s .plain .paddles) (begun (s .plain) (aged (s .plain .core))) in
-      finished-leads tick (after (saved (m .core)) m) _
-      (λ to.
-      let f = first 0 (s .plain .paddles) (begun (s .plain) (aged (s .plain .core))) out to in
-      inr (record { paddle = f .number; ticked = refl; there = f .there; five = f .five; finds = f .finds }))
+  tick-leads to =
+      let f = opened-by (s .plain .core .mode) (s .plain .paddles) (length (s .plain .paddles)) out (sym (ap inSetup (tick-mode s)) ∙ to) in
+      inr (record { ticked = refl; paddle = f .paddle; closes = record { there = f .there; taps = f .five; finds = f .finds } })
 
   module _ (bytes : List ℕ) where
     obey-leads : (o : Order) (source : ℕ) (values : List ℕ) → Leaves (receive bytes) (Orders.leads o (s .plain .core .mode))
@@ -155,7 +89,7 @@ module _ (s : Switch Plain) (out : Outside s) where
     open-leads h guess so e =
         cases (λ (o : Outcome Plain Shown). Leaves (receive bytes) (o .next .core .mode)) (matches (s .password) guess)
         (λ m to. inl (record {
-          start = record { bytes = bytes; header = h; guess = guess; received = refl; sound = so; accepted = judge.asks (order.Open guess) _ _ h _ e };
+          start = record { bytes = bytes; guess = guess; received = refl; asks = record { header = h; sound = so; accepted = judge.asks (order.Open guess) _ _ h _ e } };
           right = matches-equal (s .password) guess m;
         }))
         (λ m. same-mode (receive bytes) _ refl)
@@ -215,8 +149,8 @@ module _ (s : Switch Plain) (room : ℕ) (d : Deed) (enough : 48 ≤ room) (righ
   right-job =
       let g = right .start in
       ap (λ (d : Deed). job (s .plain) (event room d)) (g .received)
-      ∙ receive-job (s .plain) room (g .bytes) (g .header) (order.Open (g .guess)) enough (packet.only (frame.Read (g .header)) (g .bytes) (g .sound))
-      (judge.only (s .plain .registers) (s .plain .core .mode) (g .header) (order.Open (g .guess)) (messageOf (g .bytes)) (g .accepted))
+      ∙ receive-job (s .plain) room (g .bytes) (g .asks .header) (order.Open (g .guess)) enough (packet.only (frame.Read (g .asks .header)) (g .bytes) (g .asks .sound))
+      (judge.only (s .plain .registers) (s .plain .core .mode) (g .asks .header) (order.Open (g .guess)) (messageOf (g .bytes)) (g .asks .accepted))
 
   right-answer : respond s (event room d) ≡ answered (answering (opened (s .plain .core)) [] 0 reply.Silence (s .plain) seen.Hidden) (s .password)
   unfolding opens
@@ -234,7 +168,7 @@ module _ (s : Switch Plain) (room : ℕ) (d : Deed) (enough : 48 ≤ room) (righ
 
 password-opens : PasswordOpens
 password-opens s e enough right =
-    (right .start .accepted .when, (right-number s (e .room) (e .deed) enough right, right-mode s (e .room) (e .deed) enough right))
+    (right .start .asks .accepted .when, (right-number s (e .room) (e .deed) enough right, right-mode s (e .room) (e .deed) enough right))
 
 -- The packet that a fitter sends is one.
 own-password : (s : Switch Plain) (h : Header) → s .plain .core .mode ≡ Normal
@@ -246,15 +180,17 @@ own-password s h normal ranges direct network unit nonzero =
     record {
       start = record {
         bytes = packed h m;
-        header = h;
         guess = s .password;
         received = refl;
-        sound = packet.sound (packed h m) h (back .0);
-        accepted = record {
-          reached = (λ u. ⊎-elim (u .0) (u .1) network, λ u. subst (λ (link : Bool). NotFor link (s .plain .registers) (h .destination)) direct u .1 unit);
-          comes = (direct, (unit, nonzero));
-          when = normal;
-          says = back .1;
+        asks = record {
+          header = h;
+          sound = packet.sound (packed h m) h (back .0);
+          accepted = record {
+            reached = (λ u. ⊎-elim (u .0) (u .1) network, λ u. subst (λ (link : Bool). NotFor link (s .plain .registers) (h .destination)) direct u .1 unit);
+            comes = (direct, (unit, nonzero));
+            when = normal;
+            says = back .1;
+          };
         };
       };
       right = refl;

@@ -1,180 +1,374 @@
--- Every start leads to the tick that passes Setup, by the paddles alone.
+-- What a tick writes, and which ticks pass Setup unseen.
+use mathlib.Core.Bool.{Bool, true, false, _||_, or-true, true≢false, false≢true}
 use mathlib.Core.List.{List, [], _∷_, _++_}
+use mathlib.Core.Logic.{_⊎_, inl, inr, ⊎-elim}
 use mathlib.Core.Path.{_≡_, refl, sym, ap, ap₂, _∙_, subst}
-use Prim.Native.Nat.{ℕ, zero, suc, _+_, _-_, _≤_, _<_}
+use Prim.Native.Nat.{ℕ, zero, suc, _+_, _≤_, _<_}
 use native.Mathlib.Omega.{arith}
-use borrow.Author.Tests.{lt-leb, ne-eqb}
-use lib.ListN.{getD}
-use Rattle.vault.specs.Job.{Switch, settled}
-use Rattle.vault.specs.Machine.{run}
-use Rattle.vault.specs.Product
-use Rattle.vault.specs.declared.Mode.the-variants.{Normal}
-use Rattle.paddle.specs.Paddle.{closing, completed, counted, down, ends, fresh, gesture, next, pressed, released}
-use Rattle.paddle.specs.Promises.{raised, ticks}
-use Rattle.paddle.specs.declared.Contact.the-variants.{Local}
-use Rattle.paddle.specs.declared.Gesture.the-variants.{Nothing}
+use borrow.Author.Tests.{eqb-true, le-ltb}
+use lib.Dec.{eqb}
+use lib.ListN.{getD, length}
+use Rattle.words.specs.Words.{if_then_else_}
+use Rattle.words.proofs.Laws.{cases, two-ways}
+use Rattle.units.specs.Units.{percentOf}
+use Rattle.units.specs.declared.Step.{Step}
+use Rattle.vault.specs.Job.{Switch}
+use Rattle.vault.specs.Vault.{inSetup}
+use Rattle.vault.specs.declared.Mode.{Mode}
+use Rattle.vault.specs.declared.Mode.the-variants.{Normal, Setup, Factory}
+use Rattle.paddle.specs.Paddle.{fresh, gesture}
+use Rattle.paddle.specs.declared.Gesture.{Gesture}
+use Rattle.paddle.specs.declared.Gesture.the-variants as gestures
 use Rattle.paddle.specs.declared.Paddle.{Paddle}
-use Rattle.paddle.proofs.Laws.{a-tap, hold-comes, run-open}
-use Rattle.acts.specs.Core.{started}
-use Rattle.acts.specs.Gestures.{leads}
-use Rattle.switch.specs.Switch.{Event, Plain, press, release, tick}
-use Rattle.switch.specs.Events.{begun, doing, finished, gestureAt, job, kindOf, known, paddleAt, paddleOf, pressedAt, pressing, releasedAt, releasing, signalledBy, ticking, woken}
-use Rattle.switch.specs.Respond.{respond, startedFrom}
-use Rattle.promises.specs.Alters.{modeFor}
-use Rattle.promises.specs.Cases.{pressOf, runOf, ticksOf, with48}
-use Rattle.promises.specs.Presets.{Presets, ReachedByTaps, passingTaps, threeTaps}
-use Rattle.promises.proofs.Alters.{turned-mode}
-use Rattle.promises.proofs.Cases.{run-joined, ticks-shift}
-use Rattle.promises.proofs.Presets.{factory-preset, only-by-passing, over-runs, passing, preset-safe, presets-stay, signalled-mode, tick-mode, up-leads, witness}
+use Rattle.paddle.proofs.Laws.{either}
+use Rattle.registers.specs.Places.{counterPlace, savedPlace}
+use Rattle.registers.specs.Write.{byteAfter, byteSet, counted, factoryAt, sets, within}
+use Rattle.registers.specs.declared.places.Counter.the-variants.{Setups}
+use Rattle.registers.specs.declared.write.Write.{Write}
+use Rattle.registers.specs.declared.write.Write.the-variants as write
+use Rattle.acts.specs.Gestures.{leads, writes}
+use Rattle.switch.specs.Switch.{Deed, Plain, event, tick}
+use Rattle.switch.specs.Respond.{respond}
+use Rattle.promises.specs.Alters.{Writing, alone, byDeed, byPaddles, bySaving, byteAt, bytesAfter, writesOf}
+use Rattle.promises.specs.Demand3.{Outside}
+use Rattle.promises.specs.Modes.{Closes, modeFor}
+use Rattle.promises.specs.Opening.{ByFiveTaps}
+use Rattle.promises.specs.Passing.{BothClose, EveryTick, FactoryExactly, FactoryFromOutside, OfTwoPaddles, PassesUnseen, SetsFactory, UnseenCounts, UnseenExactly, closed, countedBy, entries, opens, reset, resets, tickedByte}
+use Rattle.promises.proofs.Alters.{alters}
+use Rattle.promises.proofs.Modes.{finds-modes, leads-open, not-outside, opened}
+use Rattle.promises.proofs.Opening.{opening}
 
--- A switch in Normal with these two paddles.
-record At (s : Switch Plain) (top bottom : Paddle) : Type 0 where
-  paddles : s .plain .paddles ≡ top ∷ bottom ∷ []
-  mode : s .plain .core .mode ≡ Normal
+-- ---- what the gestures of a tick write
 
--- ---- event by event
+-- A gesture counts an entry, sets the factory values, or writes nothing.
+writes-as : (mode : Mode) (g : Gesture) → writes mode g ≡ (if opens mode g then write.Count Setups else if resets mode g then write.Factory else write.Nothing)
+unfolding writes opens resets closed
+writes-as Normal gestures.Nothing = refl
+writes-as Normal (gestures.Taps n) = refl
+writes-as Normal gestures.Hold = refl
+writes-as Normal gestures.Release = refl
+writes-as Setup gestures.Nothing = refl
+writes-as Setup (gestures.Taps n) = refl
+writes-as Setup gestures.Hold = refl
+writes-as Setup gestures.Release = refl
+writes-as Factory g = refl
 
-module _ (s : Switch Plain) (a b : Paddle) (k : At s a b) where
-  top-pressed : At (respond s (with48 (press 0)) .next) (pressed Local a) b
-  unfolding Product.respond job doing known pressing finished settled pressedAt paddleOf kindOf signalledBy
-  top-pressed = record { paddles = rw (k .paddles); mode = k .mode }
+-- The factory values twice are the factory values once: the same tests decide.
+decided : (b : Bool) (c x y : ℕ) → (b ≡ false → x ≡ y) → (if b then c else x) ≡ (if b then c else y)
+decided true c x y h = refl
+decided false c x y h = h refl
 
-  bottom-pressed : At (respond s (with48 (press 1)) .next) a (pressed Local b)
-  unfolding Product.respond job doing known pressing finished settled pressedAt paddleOf kindOf signalledBy
-  bottom-pressed = record { paddles = rw (k .paddles); mode = k .mode }
+factory-twice : (place old : ℕ) → factoryAt place (factoryAt place old) ≡ factoryAt place old
+unfolding factoryAt
+factory-twice place old =
+    decided (eqb place 0x00) _ _ _ (λ a. decided (eqb place 0x01) _ _ _ (λ b. decided (eqb place 0x02) _ _ _ (λ c. decided (eqb place 0x03) _ _ _ (λ d.
+    decided (within 0x10 place 0x3F) _ _ _ (λ e. decided (within 0x7A place 0x81) _ _ _ (λ f. decided (eqb place 0x8B) _ _ _ (λ g. decided (eqb place 0x8D) _ _ _ (λ h.
+    decided (within 0x40 place 0xBF) _ _ _ (λ i. rw (a, b, c, d, e, f, g, h, i))))))))))
 
-  release-mode : (contact : ℕ) → settled (s .password) (releasing contact (s .plain)) .next .plain .core .mode ≡ s .plain .core .mode
-  unfolding releasing finished settled gestureAt
-  release-mode contact =
-      signalled-mode _ _ ∙ turned-mode (paddleOf contact) (gestureAt contact (s .plain .paddles)) (begun (s .plain) (s .plain .core))
-      ∙ up-leads (s .plain .core .mode) (kindOf contact) (paddleAt contact (s .plain .paddles))
+set-twice : (place old : ℕ) → byteAfter write.Factory [] place (byteAfter write.Factory [] place old) ≡ byteAfter write.Factory [] place old
+unfolding byteAfter byteSet
+set-twice place old = go (sets write.Factory 0 place)
+  where
+    go : (b : Bool) → (if b then factoryAt place (if b then factoryAt place old else old) else (if b then factoryAt place old else old)) ≡ (if b then factoryAt place old else old)
+    go true = factory-twice place old
+    go false = refl
 
-  top-released : At (respond s (with48 (release 0)) .next) (released Local a) b
-  unfolding Product.respond job doing known releasing finished settled releasedAt paddleOf kindOf
-  top-released = record { paddles = rw (k .paddles); mode = release-mode 0 ∙ k .mode }
+-- ---- the byte of a place after the gestures of a tick
 
-  bottom-released : At (respond s (with48 (release 1)) .next) a (released Local b)
-  unfolding Product.respond job doing known releasing finished settled releasedAt paddleOf kindOf
-  bottom-released = record { paddles = rw (k .paddles); mode = release-mode 1 ∙ k .mode }
+-- At 0xFA: one more for each entry.
+counted-more : (m n old : ℕ) → countedBy (m + n) old ≡ countedBy n (countedBy m old)
+unfolding countedBy
+counted-more zero n old = let e : 0 + n ≡ n = omega arith in rw e
+counted-more (suc m) n old = let e : suc m + n ≡ suc (m + n) = omega arith in rw e (counted-more m n (counted old))
 
-  quiet-mode : gesture a ≡ Nothing → gesture b ≡ Nothing → modeFor Normal (a ∷ b ∷ []) 2 ≡ Normal
-  unfolding modeFor leads
-  quiet-mode p q = rw (p, q)
+entry-byte : (opening resetting : Bool) (old : ℕ)
+    → byteAfter (if opening then write.Count Setups else if resetting then write.Factory else write.Nothing) [] (counterPlace Setups) old
+    ≡ countedBy (if opening then 1 else 0) old
+unfolding byteAfter byteSet sets counterPlace countedBy
+entry-byte true resetting old = refl
+entry-byte false true old = refl
+entry-byte false false old = refl
 
-  both-ticked : gesture a ≡ Nothing → gesture b ≡ Nothing → At (respond s (with48 tick) .next) (next a) (next b)
-  unfolding Product.respond job doing ticking finished settled
-  both-ticked p q = record {
-    paddles = rw (k .paddles);
-    mode = tick-mode s ∙ rw (k .paddles, k .mode) (quiet-mode p q);
-  }
+entries-byte : (mode : Mode) (ps : List Paddle) (later : List Writing) (old : ℕ)
+    → bytesAfter (byPaddles mode ps ++ later) (counterPlace Setups) old ≡ bytesAfter later (counterPlace Setups) (countedBy (entries mode ps) old)
+unfolding byPaddles bytesAfter entries countedBy
+entries-byte mode [] later old = refl
+entries-byte mode (p ∷ ps) later old =
+    let g = gesture p in
+    let first : byteAfter (writes mode g) [] (counterPlace Setups) old ≡ countedBy (if opens mode g then 1 else 0) old =
+    ap (λ (w : Write). byteAfter w [] (counterPlace Setups) old) (writes-as mode g) ∙ entry-byte (opens mode g) (resets mode g) old in
+    entries-byte (leads mode g) ps later (byteAfter (writes mode g) [] (counterPlace Setups) old)
+    ∙ ap (bytesAfter later (counterPlace Setups)) (ap (countedBy (entries (leads mode g) ps)) first ∙ sym (counted-more (if opens mode g then 1 else 0) (entries (leads mode g) ps) old))
 
--- ---- ticks
+-- Elsewhere: the factory value where a gesture sets them.
+module _ (place : ℕ) (elsewhere : eqb place (counterPlace Setups) ≡ false) where
+  reset-byte : (opening resetting : Bool) (old : ℕ) → (opening ≡ true → resetting ≡ false)
+      → byteAfter (if opening then write.Count Setups else if resetting then write.Factory else write.Nothing) [] place old
+      ≡ (if resetting then byteAfter write.Factory [] place old else old)
+  unfolding byteAfter sets
+  reset-byte true true old one = absurd (true≢false (one refl))
+  reset-byte true false old one = rw elsewhere
+  reset-byte false true old one = refl
+  reset-byte false false old one = refl
 
-ticks-more : (n m : ℕ) (p : Paddle) → ticks n (ticks m p) ≡ ticks (n + m) p
-unfolding ticks
-ticks-more zero m p = let e : m ≡ 0 + m = omega arith in ap (λ (k : ℕ). ticks k p) e
-ticks-more (suc n) m p = let e : suc (n + m) ≡ suc n + m = omega arith in ap next (ticks-more n m p) ∙ ap (λ (k : ℕ). ticks k p) e
+  or-byte : (a b : Bool) (old : ℕ)
+      → (if b then byteAfter write.Factory [] place (if a then byteAfter write.Factory [] place old else old) else (if a then byteAfter write.Factory [] place old else old))
+      ≡ (if a || b then byteAfter write.Factory [] place old else old)
+  or-byte true true old = set-twice place old
+  or-byte true false old = refl
+  or-byte false true old = refl
+  or-byte false false old = refl
 
--- A paddle that completes nothing in n ticks.
-abbrev Quiet : ℕ → Paddle → Type 0
-Quiet n p = (k : ℕ) → k < n → gesture (ticks k p) ≡ Nothing
+  not-both : (mode : Mode) (g : Gesture) → opens mode g ≡ true → resets mode g ≡ false
+  unfolding opens resets
+  not-both Normal g e = refl
+  not-both Setup g e = absurd (false≢true e)
+  not-both Factory g e = refl
 
-quiet-next : (n : ℕ) (p : Paddle) → Quiet (suc n) p → Quiet n (next p)
-quiet-next n p q k h = ap gesture (ticks-shift k p) ∙ q (suc k) (omega arith)
+  resets-byte : (mode : Mode) (ps : List Paddle) (later : List Writing) (old : ℕ)
+      → bytesAfter (byPaddles mode ps ++ later) place old ≡ bytesAfter later place (if reset mode ps then byteAfter write.Factory [] place old else old)
+  unfolding byPaddles bytesAfter reset
+  resets-byte mode [] later old = refl
+  resets-byte mode (p ∷ ps) later old =
+      let g = gesture p in
+      let first : byteAfter (writes mode g) [] place old ≡ (if resets mode g then byteAfter write.Factory [] place old else old) =
+      ap (λ (w : Write). byteAfter w [] place old) (writes-as mode g) ∙ reset-byte (opens mode g) (resets mode g) old (not-both mode g) in
+      resets-byte (leads mode g) ps later (byteAfter (writes mode g) [] place old)
+      ∙ ap (bytesAfter later place)
+      (ap (λ (n : ℕ). if reset (leads mode g) ps then byteAfter write.Factory [] place n else n) first ∙ or-byte (resets mode g) (reset (leads mode g) ps) old)
 
-both-ticks : (n : ℕ) (s : Switch Plain) (a b : Paddle) → At s a b → Quiet n a → Quiet n b → At (runOf s (ticksOf n)) (ticks n a) (ticks n b)
-unfolding run ticksOf ticks
-both-ticks zero s a b k p q = k
-both-ticks (suc n) s a b k p q =
-    let on = both-ticks n (respond s (with48 tick) .next) (next a) (next b) (both-ticked s a b k (p 0 (omega arith)) (q 0 (omega arith))) (quiet-next n a p) (quiet-next n b q) in
-    record { paddles = on .paddles ∙ ap₂ (λ (x y : Paddle). x ∷ y ∷ []) (ticks-shift n a) (ticks-shift n b); mode = on .mode }
+-- The save comes last.
+saving-byte : (save : ℕ) (level : Step) (place n : ℕ)
+    → byteAfter (bySaving save level) [] place n ≡ (if eqb place savedPlace then (if eqb save 0 then percentOf level .0 else n) else n)
+unfolding bySaving byteAfter byteSet sets
+saving-byte save level place n = go (eqb save 0) (eqb place savedPlace)
+  where
+    go : (a b : Bool) → byteAfter (if a then write.Save (percentOf level) else write.Nothing) [] place n ≡ (if eqb place savedPlace then (if a then percentOf level .0 else n) else n)
+    go true b = refl
+    go false b = sym (either n (eqb place savedPlace))
 
--- A paddle just pressed completes nothing before Hold.
-pressed-quiet : (n hold gap taps : ℕ) → n ≤ 179 → Quiet n (pressed Local (raised hold gap taps))
-pressed-quiet n hold gap taps h k under = hold-comes k Local hold gap taps ∙ rw (ne-eqb 179 k (λ e. omega arith))
+tick-byte : (mode : Mode) (ps : List Paddle) (save : ℕ) (level : Step) (place old : ℕ)
+    → bytesAfter (byPaddles mode ps ++ (alone (bySaving save level) ∷ [])) place old
+    ≡ (if eqb place (counterPlace Setups) then countedBy (entries mode ps) old
+    else if eqb place savedPlace then (if eqb save 0 then percentOf level .0 else old)
+    else if reset mode ps then byteAfter write.Factory [] place old
+    else old)
+unfolding bytesAfter counterPlace byteAfter sets
+tick-byte mode ps save level place old = at-counter (eqb place (counterPlace Setups)) refl
+  where
+    later : List Writing
+    later = alone (bySaving save level) ∷ []
 
--- A tap of the bottom paddle, while the top one completes nothing.
-bottom-tap : (s : Switch Plain) (a : Paddle) (hold gap taps : ℕ) → At s a (raised hold gap taps) → Quiet 60 a
-    → At (runOf s (pressOf 60 1)) (ticks 60 a) (raised 120 180 (counted taps))
-unfolding run
-bottom-tap s a hold gap taps k quiet =
-    let b = raised hold gap taps in
-    let down = respond s (with48 (press 1)) .next in
-    let later = runOf down (ticksOf 60) in
-    let on = both-ticks 60 down a (pressed Local b) (bottom-pressed s a b k) quiet (pressed-quiet 60 hold gap taps (omega arith)) in
-    let up = bottom-released later (ticks 60 a) (ticks 60 (pressed Local b)) on in
-    subst (λ (t : Switch Plain). At t (ticks 60 a) (raised 120 180 (counted taps))) (sym (run-joined down (ticksOf 60) (with48 (release 1) ∷ [])))
-    (subst (λ (p : Paddle). At (respond later (with48 (release 1)) .next) (ticks 60 a) p) (a-tap 60 Local hold gap taps (omega arith) (omega arith) .0) up)
+    kept : ℕ
+    kept = if reset mode ps then byteAfter write.Factory [] place old else old
 
--- A tap of the top paddle with two of the bottom in it.
-three-taps : (s : Switch Plain) (hold gap taps hold′ gap′ taps′ : ℕ) → At s (raised hold gap taps) (raised hold′ gap′ taps′)
-    → At (runOf s threeTaps) (raised 60 180 (counted taps)) (raised 120 180 (counted (counted taps′)))
-unfolding run
-three-taps s hold gap taps hold′ gap′ taps′ k =
-    let a = pressed Local (raised hold gap taps) in
-    let quiet = pressed-quiet 120 hold gap taps (omega arith) in
-    let down = respond s (with48 (press 0)) .next in
-    let once = runOf down (pressOf 60 1) in
-    let twice = runOf once (pressOf 60 1) in
-    let one = bottom-tap down a hold′ gap′ taps′ (top-pressed s (raised hold gap taps) (raised hold′ gap′ taps′) k) (λ i h. quiet i (omega arith)) in
-    let two = bottom-tap once (ticks 60 a) 120 180 (counted taps′) one (λ i h. ap gesture (ticks-more i 60 a) ∙ quiet (i + 60) (omega arith)) in
-    let up = top-released twice (ticks 60 (ticks 60 a)) (raised 120 180 (counted (counted taps′))) two in
-    let same : runOf s threeTaps ≡ respond twice (with48 (release 0)) .next =
-    run-joined down (pressOf 60 1) (pressOf 60 1 ++ with48 (release 0) ∷ []) ∙ run-joined once (pressOf 60 1) (with48 (release 0) ∷ []) in
-    let tapped : released Local (ticks 60 (ticks 60 a)) ≡ raised 60 180 (counted taps) =
-    ap (released Local) (ticks-more 60 60 a) ∙ a-tap 120 Local hold gap taps (omega arith) (omega arith) .0 in
-    record {
-      paddles = ap (λ (t : Switch Plain). t .plain .paddles) same ∙ up .paddles ∙ ap (λ (p : Paddle). p ∷ raised 120 180 (counted (counted taps′)) ∷ []) tapped;
-      mode = ap (λ (t : Switch Plain). t .plain .core .mode) same ∙ up .mode;
-    }
+    at-saved : (b : Bool) → eqb place savedPlace ≡ b → (if b then (if eqb save 0 then percentOf level .0 else kept) else kept) ≡ (if b then (if eqb save 0 then percentOf level .0 else old) else kept)
+    at-saved true e =
+        let same : place ≡ savedPlace = eqb-true place savedPlace e in
+        ap (λ (n : ℕ). if eqb save 0 then percentOf level .0 else n) (rw same (either old (reset mode ps)))
+    at-saved false e = refl
 
--- A run that is open completes nothing before its closing tick.
-open-quiet : (hold taps : ℕ) → Quiet 179 (raised hold 180 taps)
-unfolding gesture ends down
-open-quiet hold taps k h = ap gesture (run-open k hold 180 taps (omega arith)) ∙ rw (lt-leb (180 - k) 1 (omega arith))
+    at-counter : (b : Bool) → eqb place (counterPlace Setups) ≡ b
+        → bytesAfter (byPaddles mode ps ++ later) place old
+        ≡ (if b then countedBy (entries mode ps) old else if eqb place savedPlace then (if eqb save 0 then percentOf level .0 else old) else kept)
+    at-counter true e =
+        let same : place ≡ counterPlace Setups = eqb-true place (counterPlace Setups) e in
+        rw same (entries-byte mode ps later old ∙ saving-byte save level (counterPlace Setups) (countedBy (entries mode ps) old))
+    at-counter false e = resets-byte place e mode ps later old ∙ saving-byte save level place kept ∙ at-saved (eqb place savedPlace) refl
 
-start-at : (image : List ℕ) → At (startedFrom image) fresh fresh
-unfolding startedFrom woken started
-start-at image = record { paddles = refl; mode = refl }
+pub every-tick : EveryTick
+unfolding writesOf byDeed tickedByte
+every-tick s room place enough sane h =
+    alters .equation s (event room tick) place sane h ∙ rw (le-ltb room 48 enough)
+    (tick-byte (s .plain .core .mode) (s .plain .paddles) (s .plain .core .save) (respond s (event room tick) .next .plain .core .dimmer .level) place (byteAt s place))
 
-reached : ReachedByTaps
-unfolding counted gesture ends completed closing down
-reached image =
-    let s0 = startedFrom image in
-    let s1 = runOf s0 threeTaps in
-    let s2 = runOf s1 threeTaps in
-    let s3 = runOf s2 threeTaps in
-    let s4 = runOf s3 threeTaps in
-    let s5 = runOf s4 threeTaps in
-    let k1 = three-taps s0 0 0 0 0 0 0 (start-at image) in
-    let k2 = three-taps s1 60 180 1 120 180 2 k1 in
-    let k3 = three-taps s2 60 180 2 120 180 4 k2 in
-    let k4 = three-taps s3 60 180 3 120 180 6 k3 in
-    let k5 = three-taps s4 60 180 4 120 180 8 k4 in
-    let end = both-ticks 179 s5 (raised 60 180 5) (raised 120 180 10) k5 (open-quiet 60 5) (open-quiet 120 10) in
-    let closing-up = end .paddles ∙ ap₂ (λ (x y : Paddle). x ∷ y ∷ []) (run-open 179 60 180 5 (omega arith)) (run-open 179 120 180 10 (omega arith)) in
-    let same : runOf s0 passingTaps ≡ runOf s5 (ticksOf 179) =
-    run-joined s0 threeTaps (threeTaps ++ (threeTaps ++ (threeTaps ++ (threeTaps ++ ticksOf 179))))
-    ∙ run-joined s1 threeTaps (threeTaps ++ (threeTaps ++ (threeTaps ++ ticksOf 179)))
-    ∙ run-joined s2 threeTaps (threeTaps ++ (threeTaps ++ ticksOf 179))
-    ∙ run-joined s3 threeTaps (threeTaps ++ ticksOf 179)
-    ∙ run-joined s4 threeTaps (ticksOf 179) in
-    let paddles = ap (λ (t : Switch Plain). t .plain .paddles) same ∙ closing-up in
-    record {
-      mode = ap (λ (t : Switch Plain). t .plain .core .mode) same ∙ end .mode;
-      top = ap (λ (ps : List Paddle). gesture (getD ps 0 fresh)) paddles;
-      bottom = ap (λ (ps : List Paddle). gesture (getD ps 1 fresh)) paddles;
-    }
+-- ---- which gestures do it
 
--- All that is promised of the presets.
-pub presets : Presets
-presets = record {
-  safe = preset-safe;
-  factory = factory-preset;
-  runs = over-runs;
-  stay = presets-stay;
-  only = only-by-passing;
-  passing = passing;
-  witness = witness;
-  reached = reached;
-}
+closed-by : (count : ℕ) (g : Gesture) → closed count g ≡ true → g ≡ gestures.Taps count
+unfolding closed
+closed-by count gestures.Nothing e = absurd (false≢true e)
+closed-by count (gestures.Taps n) e = ap gestures.Taps (eqb-true n count e)
+closed-by count gestures.Hold e = absurd (false≢true e)
+closed-by count gestures.Release e = absurd (false≢true e)
+
+resets-by : (mode : Mode) (g : Gesture) → resets mode g ≡ true → (mode ≡ Setup) × (g ≡ gestures.Taps 10)
+unfolding resets
+resets-by Normal g e = absurd (false≢true e)
+resets-by Setup g e = (refl, closed-by 10 g e)
+resets-by Factory g e = absurd (false≢true e)
+
+-- A paddle of the list that closes so many taps and finds this mode.
+record Has (mode : Mode) (ps : List Paddle) (found : Mode) (count : ℕ) : Type 0 where
+  paddle : ℕ
+  there : paddle < length ps
+  taps : gesture (getD ps paddle fresh) ≡ gestures.Taps count
+  finds : modeFor mode ps paddle ≡ found
+
+reset-has : (mode : Mode) (ps : List Paddle) → reset mode ps ≡ true → Has mode ps Setup 10
+unfolding reset modeFor
+reset-has mode [] e = absurd (false≢true e)
+reset-has mode (p ∷ ps) e = go (resets mode (gesture p)) refl (λ h. reset-has (leads mode (gesture p)) ps h) e
+  where
+    go : (b : Bool) → resets mode (gesture p) ≡ b → (reset (leads mode (gesture p)) ps ≡ true → Has (leads mode (gesture p)) ps Setup 10)
+        → (b || reset (leads mode (gesture p)) ps) ≡ true → Has mode (p ∷ ps) Setup 10
+    go true e later h =
+        let by = resets-by mode (gesture p) e in
+        record { paddle = 0; there = omega arith; taps = by .1; finds = by .0 }
+    go false e later h =
+        let rest = later h in
+        record { paddle = suc (rest .paddle); there = omega (arith, rest .there); taps = rest .taps; finds = rest .finds }
+
+has-reset : (mode : Mode) (ps : List Paddle) (i : ℕ) → i < length ps → gesture (getD ps i fresh) ≡ gestures.Taps 10 → modeFor mode ps i ≡ Setup → reset mode ps ≡ true
+unfolding reset modeFor resets closed
+has-reset mode [] i there taps finds = absurd (omega arith)
+has-reset mode (p ∷ ps) zero there taps finds = rw (finds, taps)
+has-reset mode (p ∷ ps) (suc i) there taps finds =
+    ap (λ (b : Bool). resets mode (gesture p) || b) (has-reset (leads mode (gesture p)) ps i (omega arith) taps finds) ∙ or-true (resets mode (gesture p))
+
+pub factory-exactly : FactoryExactly
+factory-exactly s = (
+  λ e.
+      let by = reset-has (s .plain .core .mode) (s .plain .paddles) e in
+      record { paddle = by .paddle; closes = record { there = by .there; taps = by .taps; finds = by .finds } },
+  λ f. has-reset (s .plain .core .mode) (s .plain .paddles) (f .paddle) (f .closes .there) (f .closes .taps) (f .closes .finds),
+)
+
+pub factory-from-outside : FactoryFromOutside
+unfolding inSetup
+factory-from-outside s i out c =
+    let f = opened (s .plain .core .mode) (s .plain .paddles) i out (ap inSetup (c .finds)) in
+    record { paddle = f .paddle; earlier = f .earlier; closes = record { there = f .there; taps = f .five; finds = f .finds } }
+
+-- ---- the ticks that pass Setup unseen
+
+-- The mode that a paddle leaves is what the next one finds.
+next-finds : (mode : Mode) (ps : List Paddle) (i : ℕ) → i < length ps → modeFor mode ps (suc i) ≡ leads (modeFor mode ps i) (gesture (getD ps i fresh))
+unfolding modeFor
+next-finds mode [] i there = absurd (omega arith)
+next-finds mode (p ∷ []) zero there = refl
+next-finds mode (p ∷ q ∷ ps) zero there = refl
+next-finds mode (p ∷ ps) (suc i) there = next-finds (leads mode (gesture p)) ps i (omega arith)
+
+-- After five taps in Normal the next paddle, or the end of the tick, finds Setup.
+then-setup : (s : Switch Plain) (i : ℕ) → Closes s i Normal 5 → modeFor (s .plain .core .mode) (s .plain .paddles) (suc i) ≡ Setup
+unfolding leads
+then-setup s i c = next-finds (s .plain .core .mode) (s .plain .paddles) i (c .there) ∙ ap₂ leads (c .finds) (c .taps)
+
+passes-unseen : (s : Switch Plain) (i : ℕ) → Outside s → Closes s i Normal 5 → inSetup (modeFor (s .plain .core .mode) (s .plain .paddles) (length (s .plain .paddles))) ≡ false → PassesUnseen s
+passes-unseen s i out c after =
+    two-ways (suc i) (length (s .plain .paddles))
+    (λ more. record { before = out; paddle = suc i; there = more; finds = then-setup s i c; after = after })
+    (λ last.
+    let end : length (s .plain .paddles) ≡ suc i = omega (arith, c .there) in
+    absurd (not-outside _ (then-setup s i c) (rw end at after)))
+
+-- Such a tick enters Setup.
+enters-by : (s : Switch Plain) → PassesUnseen s → ByFiveTaps s tick
+unfolding inSetup
+enters-by s p =
+    let f = opened (s .plain .core .mode) (s .plain .paddles) (p .paddle) (p .before) (ap inSetup (p .finds)) in
+    record { ticked = refl; paddle = f .paddle; closes = record { there = f .there; taps = f .five; finds = f .finds } }
+
+pub unseen-exactly : UnseenExactly
+unseen-exactly s e out = (
+  λ k. (
+    k .0 .0,
+    ⊎-elim
+        (λ by. absurd (not-outside _ (opening .password s e (k .0 .0) by .1 .1) (k .1)))
+        (λ by. (
+          by .ticked,
+          passes-unseen s (by .paddle) out (by .closes)
+              (sym (ap inSetup (finds-modes .left s (e .room) (k .0 .0))) ∙ subst (λ (d : Deed). Outside (respond s (event (e .room) d) .next)) (by .ticked) (k .1)),
+        ))
+        (k .0 .1),
+  ),
+  λ k.
+      let to : (d : Deed) → e .deed ≡ d → d ≡ tick → Outside (respond s (event (e .room) d) .next) = λ d same is. rw is (ap inSetup (finds-modes .left s (e .room) (k .0)) ∙ k .1 .1 .after) in
+      ((k .0, inr (subst (ByFiveTaps s) (sym (k .1 .0)) (enters-by s (k .1 .1)))), to (e .deed) refl (k .1 .0)),
+)
+
+entries-some : (mode : Mode) (ps : List Paddle) (i : ℕ) → i < length ps → gesture (getD ps i fresh) ≡ gestures.Taps 5 → modeFor mode ps i ≡ Normal → 1 ≤ entries mode ps
+unfolding entries modeFor opens closed
+entries-some mode [] i there taps finds = absurd (omega arith)
+entries-some mode (p ∷ ps) zero there taps finds = rw (finds, taps) (omega arith)
+entries-some mode (p ∷ ps) (suc i) there taps finds =
+    let rest = entries-some (leads mode (gesture p)) ps i (omega arith) taps finds in omega arith
+
+pub unseen-counts : UnseenCounts
+unseen-counts s p =
+    let by = enters-by s p in
+    entries-some (s .plain .core .mode) (s .plain .paddles) (by .paddle) (by .closes .there) (by .closes .taps) (by .closes .finds)
+
+-- ---- two paddles
+
+-- Out of Setup lead two taps and ten.
+leads-out : (g : Gesture) → inSetup (leads Setup g) ≡ false → (g ≡ gestures.Taps 2) ⊎ (g ≡ gestures.Taps 10)
+unfolding leads inSetup
+leads-out gestures.Nothing e = absurd (true≢false e)
+leads-out (gestures.Taps n) e =
+    cases (λ (m : Mode). inSetup m ≡ false → (gestures.Taps n ≡ gestures.Taps 2) ⊎ (gestures.Taps n ≡ gestures.Taps 10)) (eqb n 2)
+    (λ two out. inl (ap gestures.Taps (eqb-true n 2 two)))
+    (λ other. cases (λ (m : Mode). inSetup m ≡ false → (gestures.Taps n ≡ gestures.Taps 2) ⊎ (gestures.Taps n ≡ gestures.Taps 10)) (eqb n 10)
+    (λ ten out. inr (ap gestures.Taps (eqb-true n 10 ten))) (λ none out. absurd (true≢false out))) e
+leads-out gestures.Hold e = absurd (true≢false e)
+leads-out gestures.Release e = absurd (true≢false e)
+
+first-finds : (mode : Mode) (ps : List Paddle) → modeFor mode ps 0 ≡ mode
+unfolding modeFor
+first-finds mode [] = refl
+first-finds mode (p ∷ ps) = refl
+
+module _ (s : Switch Plain) (two : length (s .plain .paddles) ≡ 2) where
+  abbrev finds : ℕ → Mode
+  finds i = modeFor (s .plain .core .mode) (s .plain .paddles) i
+
+  abbrev completes : ℕ → Gesture
+  completes i = gesture (getD (s .plain .paddles) i fresh)
+
+  second-finds : finds 1 ≡ leads (s .plain .core .mode) (completes 0)
+  second-finds =
+      next-finds (s .plain .core .mode) (s .plain .paddles) 0 (omega arith)
+      ∙ ap (λ (mode : Mode). leads mode (completes 0)) (first-finds (s .plain .core .mode) (s .plain .paddles))
+
+  end-finds : finds (length (s .plain .paddles)) ≡ leads (finds 1) (completes 1)
+  end-finds = rw two (next-finds (s .plain .core .mode) (s .plain .paddles) 1 (omega arith))
+
+  pub end-mode : (count : ℕ) → BothClose s count → finds (length (s .plain .paddles)) ≡ leads Setup (gestures.Taps count)
+  unfolding leads
+  end-mode count b = end-finds ∙ ap₂ leads (second-finds ∙ ap₂ leads (b .mode) (b .top)) (b .bottom)
+
+  pub both-pass : (count : ℕ) → BothClose s count → inSetup (leads Setup (gestures.Taps count)) ≡ false → PassesUnseen s
+  unfolding inSetup leads
+  both-pass count b shut =
+      let setup : finds 1 ≡ Setup = second-finds ∙ ap₂ leads (b .mode) (b .top) in
+      record {
+        before = ap inSetup (b .mode);
+        paddle = 1;
+        there = omega arith;
+        finds = setup;
+        after = ap inSetup (end-mode count b) ∙ shut;
+      }
+
+  pub ten-found : BothClose s 10 → SetsFactory s
+  unfolding leads
+  ten-found b = record { paddle = 1; closes = record { there = omega arith; taps = b .bottom; finds = second-finds ∙ ap₂ leads (b .mode) (b .top) } }
+
+  pass-both : PassesUnseen s → BothClose s 2 ⊎ BothClose s 10
+  unfolding inSetup
+  pass-both p =
+      two-ways (p .paddle) 1
+      (λ none.
+      let top : p .paddle ≡ 0 = omega arith in
+      absurd (not-outside _ (sym (first-finds (s .plain .core .mode) (s .plain .paddles)) ∙ subst (λ (i : ℕ). finds i ≡ Setup) top (p .finds)) (p .before)))
+      (λ some.
+      let bottom : p .paddle ≡ 1 = omega (arith, p .there) in
+      let setup : finds 1 ≡ Setup = subst (λ (i : ℕ). finds i ≡ Setup) bottom (p .finds) in
+      let five = leads-open (s .plain .core .mode) (completes 0) (p .before) (ap inSetup (sym second-finds ∙ setup)) in
+      ⊎-elim
+      (λ taps. inl (record { mode = five .0; top = five .1; bottom = taps }))
+      (λ taps. inr (record { mode = five .0; top = five .1; bottom = taps }))
+      (leads-out (completes 1) (ap inSetup (ap (λ (mode : Mode). leads mode (completes 1)) (sym setup) ∙ sym end-finds) ∙ p .after)))
+
+pub of-two-paddles : OfTwoPaddles
+unfolding inSetup leads
+of-two-paddles s sane = (pass-both s (sane .paddles), ⊎-elim (λ b. both-pass s (sane .paddles) 2 b refl) (λ b. both-pass s (sane .paddles) 10 b refl))

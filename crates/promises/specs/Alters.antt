@@ -3,7 +3,7 @@ use mathlib.Core.Bool.{true, false}
 use mathlib.Core.List.{List, [], _∷_, _++_}
 use mathlib.Core.Logic.{_⊎_}
 use mathlib.Core.Path.{_≡_}
-use Prim.Native.Nat.{ℕ, zero, suc, _+_, _-_, _≤_, _<_}
+use Prim.Native.Nat.{ℕ, _+_, _-_, _≤_, _<_}
 use lib.Dec.{eqb, ltb}
 use lib.ListN.{length, getD, drop}
 use Rattle.words.specs.Words.{if_then_else_}
@@ -13,15 +13,11 @@ use Rattle.units.specs.declared.Step.{Step}
 use Rattle.vault.specs.Job.{Switch}
 use Rattle.vault.specs.Vault.{matches}
 use Rattle.vault.specs.declared.Mode.{Mode}
-use Rattle.vault.specs.declared.Mode.the-variants.{Normal, Setup}
-use Rattle.vault.specs.declared.Password.{Password}
-use Rattle.packet.specs.Promises.{Sound}
+use Rattle.vault.specs.declared.Mode.the-variants.{Setup}
 use Rattle.packet.specs.Reading.{messageOf, readOf}
 use Rattle.packet.specs.declared.Frame.{Frame}
 use Rattle.packet.specs.declared.Frame.the-variants as frame
-use Rattle.packet.specs.declared.Header.{Header}
-use Rattle.paddle.specs.Paddle.{fresh, gesture}
-use Rattle.paddle.specs.declared.Gesture.the-variants.{Taps}
+use Rattle.paddle.specs.Paddle.{gesture}
 use Rattle.paddle.specs.declared.Paddle.{Paddle}
 use Rattle.registers.specs.Places.{levelPlace, secret, size}
 use Rattle.registers.specs.Write.{byteAfter, factoryAt, sets}
@@ -29,7 +25,6 @@ use Rattle.registers.specs.declared.places.Counter.the-variants.{Restarts, Setu
 use Rattle.registers.specs.declared.write.Write.{Write}
 use Rattle.registers.specs.declared.write.Write.the-variants.{Nothing, Count, Save, Preset, Factory, Values}
 use Rattle.judge.specs.Judge.{judged}
-use Rattle.judge.specs.Promises.{Accepted}
 use Rattle.judge.specs.declared.Order.{Order}
 use Rattle.judge.specs.declared.Order.the-variants as order
 use Rattle.acts.specs.Gestures.{leads, writes}
@@ -37,6 +32,9 @@ use Rattle.switch.specs.Switch.{Deed, Event, Plain, press, receive, release, re
 use Rattle.switch.specs.Respond.{respond}
 use Rattle.promises.specs.Bounds.{Sane}
 use Rattle.promises.specs.Demand3.{imageIn}
+use Rattle.promises.specs.Modes.{Closes}
+use Rattle.promises.specs.Numbers.{Asks}
+use Rattle.promises.specs.Opening.{ByFiveTaps, ByPassword}
 
 -- A write, and the values that it brings: only Set Registers brings any.
 pub record Writing : Type 0 where
@@ -118,32 +116,14 @@ Misses place w = sets (w .write) (length (w .values)) place ≡ false
 abbrev pub OthersStay : Type 0
 OthersStay = (s : Switch Plain) (e : Event) (place : ℕ) → Sane (s .plain) → place < size → EachWrite (Misses place) (writesOf s e) → byteAt (respond s e .next) place ≡ byteAt s place
 
--- The mode that the gesture of paddle i finds at a tick.
-unfoldable pub modeFor : Mode → List Paddle → ℕ → Mode
-modeFor mode [] i = mode
-modeFor mode (p ∷ ps) zero = mode
-modeFor mode (p ∷ ps) (suc i) = modeFor (leads mode (gesture p)) ps i
-
--- At a tick, paddle i (0 the top, 1 the bottom) closes a run of so many taps, in this mode.
-pub record Closes (s : Switch Plain) (i : ℕ) (mode : Mode) (count : ℕ) : Type 0 where
-  pub which : i < 2
-  pub taps : gesture (getD (s .plain .paddles) i fresh) ≡ Taps count
-  pub finds : modeFor (s .plain .core .mode) (s .plain .paddles) i ≡ mode
-
--- A packet that is sound and asks for this order, which is accepted.
-pub record Asks (s : Switch Plain) (bytes : List ℕ) (o : Order) : Type 0 where
-  pub header : Header
-  pub sound : Sound bytes header
-  pub accepted : Accepted o (s .plain .registers) (s .plain .core .mode) header (messageOf bytes)
-
 -- The table: each write, and the one thing that can cause it.
 pub data Cause (s : Switch Plain) : Deed → Writing → Type 0 where
   no-write : Cause s tick (alone Nothing)
   restarted : Cause s restart (alone (Count Restarts))
   saved : (percent : Percent) → s .plain .core .save ≡ 0 → Cause s tick (alone (Save percent))
-  five-taps : (i : ℕ) → Closes s i Normal 5 → Cause s tick (alone (Count Setups))
+  five-taps : (d : Deed) → ByFiveTaps s d → Cause s d (alone (Count Setups))
   ten-taps : (i : ℕ) → Closes s i Setup 10 → Cause s tick (alone Factory)
-  right-guess : (bytes : List ℕ) (guess : Password) → Asks s bytes (order.Open guess) → s .password ≡ guess → Cause s (receive bytes) (alone (Count Setups))
+  right-guess : (d : Deed) → ByPassword s d → Cause s d (alone (Count Setups))
   stored : (bytes : List ℕ) (i : ℕ) → Asks s bytes (order.Store i) → Cause s (receive bytes) (alone (Preset i (percentOf (s .plain .core .dimmer .level))))
   set : (bytes : List ℕ) (first : ℕ) → Asks s bytes (order.Set first) → Cause s (receive bytes) (writing (Values first) (drop 2 (messageOf bytes)))
 

@@ -3,7 +3,10 @@ pub mod Bounds
 pub mod Numbers
 pub mod Cases
 pub mod Rivals
+pub mod Sequence
+pub mod Modes
 pub mod Opening
 pub mod Alters
+pub mod Passing
 pub mod Presets
 pub mod Clock

@@ -15,6 +15,7 @@ use Rattle.packet.specs.declared.Frame.the-variants.{Short, Long, Length, Sum, 
 use Rattle.packet.specs.declared.Header.{Header}
 use Rattle.paddle.specs.Promises.{touched}
 use Rattle.judge.specs.Promises.{Accepted, Refusal}
+use Rattle.judge.specs.declared.Order.{Order}
 use Rattle.judge.specs.declared.Order.the-variants as order
 use Rattle.vault.specs.declared.Password.{Password}
 use Rattle.post.specs.Post.{placed}
@@ -30,6 +31,12 @@ numberAt s e = respond s e .shown .answer .number
 abbrev pub numberOfStart : List ℕ → ℕ
 numberOfStart image = startAnswer image .number
 
+-- A packet that is sound and asks for this order, which is accepted.
+pub record Asks (s : Switch Plain) (bytes : List ℕ) (o : Order) : Type 0 where
+  pub header : Header
+  pub sound : Sound bytes header
+  pub accepted : Accepted o (s .plain .registers) (s .plain .core .mode) header (messageOf bytes)
+
 -- The rows 4 to 14 for a received packet: the row's condition, and none of an earlier row. 4 to 8 are the reader's rows, 9 to 13 those of
 -- the judgement of a packet that passes them, and 14 is "Start Setup with a wrong password" that passes all of 4 to 13.
 pub data PacketRefused (s : Switch Plain) (bytes : List ℕ) : ℕ → Type 0 where
@@ -39,9 +46,7 @@ pub data PacketRefused (s : Switch Plain) (bytes : List ℕ) : ℕ → Type 0 wh
   wrong-sum : Given Sum bytes → PacketRefused s bytes 7
   reserved-bit : Given Reserved bytes → PacketRefused s bytes 8
   not-accepted : (h : Header) (n : ℕ) → Sound bytes h → Refusal (s .plain .registers) (s .plain .core .mode) h (messageOf bytes) n → PacketRefused s bytes n
-  wrong-password : (h : Header) (guess : Password) → Sound bytes h
-      → Accepted (order.Open guess) (s .plain .registers) (s .plain .core .mode) h (messageOf bytes)
-      → (s .password ≡ guess → ⊥) → PacketRefused s bytes 14
+  wrong-password : (guess : Password) → Asks s bytes (order.Open guess) → (s .password ≡ guess → ⊥) → PacketRefused s bytes 14
 
 -- "3: contact above 3"; ticks and restarts have no row of their own.
 abbrev pub DeedRefused : Switch Plain → Deed → ℕ → Type 0
@@ -64,11 +69,9 @@ Exactly = (s : Switch Plain) (e : Event) (n : ℕ) → (numberAt s e ≡ n) ↔ 
 -- A packet that passes 4 to 13 and is a Start Setup, and the guess in it.
 pub record StartSetup (s : Switch Plain) (d : Deed) : Type 0 where
   pub bytes : List ℕ
-  pub header : Header
   pub guess : Password
   pub received : d ≡ receive bytes
-  pub sound : Sound bytes header
-  pub accepted : Accepted (order.Open guess) (s .plain .registers) (s .plain .core .mode) header (messageOf bytes)
+  pub asks : Asks s bytes (order.Open guess)
 
 pub record WrongGuess (s : Switch Plain) (d : Deed) : Type 0 where
   pub start : StartSetup s d

@@ -3,25 +3,19 @@ use mathlib.Core.Bool.{true, false}
 use mathlib.Core.List.{List, [], _∷_}
 use mathlib.Core.Logic.{_⊎_}
 use mathlib.Core.Path.{_≡_}
-use Prim.Native.Nat.{ℕ, _≤_, _<_}
-use lib.ListN.{getD, length, take}
+use Prim.Native.Nat.{ℕ, _≤_}
 use Rattle.vault.specs.Job.{Switch}
 use Rattle.vault.specs.Vault.{inSetup}
-use Rattle.vault.specs.declared.Mode.{Mode}
 use Rattle.vault.specs.declared.Mode.the-variants.{Normal, Setup}
 use Rattle.vault.specs.declared.Password.{Password}
 use Rattle.packet.specs.Layout.{packed}
 use Rattle.packet.specs.Promises.{Ranges}
 use Rattle.packet.specs.declared.Header.{Header}
-use Rattle.paddle.specs.Paddle.{fresh, gesture}
-use Rattle.paddle.specs.declared.Gesture.the-variants.{Taps}
 use Rattle.registers.specs.Places.{networkIn, unitIn}
-use Rattle.acts.specs.Core.{aged}
 use Rattle.switch.specs.Switch.{Deed, Event, Plain, event, receive, tick}
-use Rattle.switch.specs.Paddles.{turns}
-use Rattle.switch.specs.Events.{begun}
 use Rattle.switch.specs.Respond.{respond}
 use Rattle.promises.specs.Demand3.{Outside}
+use Rattle.promises.specs.Modes.{Closes}
 use Rattle.promises.specs.Numbers.{StartSetup, numberAt}
 
 -- A Start Setup that passes every check, with the switch's own password. It is only accepted in Normal.
@@ -29,23 +23,19 @@ pub record ByPassword (s : Switch Plain) (d : Deed) : Type 0 where
   pub start : StartSetup s d
   pub right : s .password ≡ start .guess
 
--- The mode that a paddle finds in a tick: the paddles before it have acted.
-abbrev pub modeFound : ℕ → Plain → Mode
-modeFound i p = turns 0 (take i (p .paddles)) (begun p (aged (p .core))) .core .mode
-
 -- A tick in which a paddle closes five taps and finds Normal.
 pub record ByFiveTaps (s : Switch Plain) (d : Deed) : Type 0 where
-  pub paddle : ℕ
   pub ticked : d ≡ tick
-  pub there : paddle < length (s .plain .paddles)
-  pub five : gesture (getD (s .plain .paddles) paddle fresh) ≡ Taps 5
-  pub finds : modeFound paddle (s .plain) ≡ Normal
+  pub paddle : ℕ
+  pub closes : Closes s paddle Normal 5
 
--- An event that finds the switch outside Setup and leaves it in Setup is one of these two.
+-- An event that enters Setup is one of these two, with room enough. A tick can enter Setup and leave it again, so that no answer shows it.
+abbrev pub Enters : Switch Plain → Event → Type 0
+Enters s e = (48 ≤ e .room) × (ByPassword s (e .deed) ⊎ ByFiveTaps s (e .deed))
+
+-- Whatever finds the switch outside Setup and leaves it in Setup enters it.
 abbrev pub OnlySo : Type 0
-OnlySo =
-    (s : Switch Plain) (e : Event) → Outside s → inSetup (respond s e .next .plain .core .mode) ≡ true
-    → (48 ≤ e .room) × (ByPassword s (e .deed) ⊎ ByFiveTaps s (e .deed))
+OnlySo = (s : Switch Plain) (e : Event) → Outside s → inSetup (respond s e .next .plain .core .mode) ≡ true → Enters s e
 
 -- The first of them always opens it.
 abbrev pub PasswordOpens : Type 0

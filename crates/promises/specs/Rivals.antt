@@ -4,9 +4,12 @@ use mathlib.Core.Path.{_≡_}
 use Prim.Native.Nat.{ℕ, zero, suc}
 use lib.ListN.{length}
 use Rattle.vault.specs.Job.{Switch}
+use Rattle.vault.specs.Machine.{run}
+use Rattle.vault.specs.Product.{machine}
 use Rattle.post.specs.Post.{placed}
-use Rattle.switch.specs.Switch.{Deed, Plain, answerWith, event, held, tally}
-use Rattle.switch.specs.Respond.{Responds, Starts, respond}
+use Rattle.registers.specs.Places.{size}
+use Rattle.switch.specs.Switch.{Deed, Event, Plain, answerWith, event, held, tally}
+use Rattle.switch.specs.Respond.{Responds, Starts, respond, startedFrom, wallSwitch}
 use Rattle.switch.specs.declared.Answer.{Answer}
 use Rattle.switch.specs.declared.Live.{Live}
 
@@ -24,15 +27,23 @@ told answer live registers buffer = record { answer = answer; live = live; regis
 abbrev pub Rival : Type 0
 Rival = ℕ → Deed → Live → List ℕ → List ℕ → Told
 
--- It meets the contract if it does at every event.
-abbrev pub Meets : Rival → Type 0
-Meets r = (before : ℕ) (deed : Deed) (live : Live) (all out : List ℕ)
-    → Responds deed live all out (r before deed live all out .answer) (r before deed live all out .live)
-    (r before deed live all out .registers) (r before deed live all out .buffer)
-
 -- All that a switch holds besides its registers.
 abbrev pub liveOf : Switch Plain → Live
 liveOf s = record { password = s .password; core = s .plain .core; paddles = s .plain .paddles }
+
+-- The switch as it stands after so many events since a start from 256 bytes.
+pub record Reached (before : ℕ) (live : Live) (all : List ℕ) : Type 0 where
+  pub image : List ℕ
+  pub whole : length image ≡ size
+  pub events : List Event
+  pub count : length events ≡ before
+  pub holds : held live all ≡ run (machine wallSwitch) (startedFrom image) events
+
+-- A rival meets the contract if it does at every event of every switch that was started.
+abbrev pub Meets : Rival → Type 0
+Meets r = (before : ℕ) (deed : Deed) (live : Live) (all out : List ℕ) → Reached before live all
+    → Responds deed live all out (r before deed live all out .answer) (r before deed live all out .live)
+    (r before deed live all out .registers) (r before deed live all out .buffer)
 
 -- The right one.
 abbrev pub honest : Rival

@@ -1,0 +1,165 @@
+-- What a tick writes, place by place, and the tick that passes Setup unseen.
+use mathlib.Core.Bool.{Bool, true, false, _||_}
+use mathlib.Core.List.{List, [], _∷_, _++_}
+use mathlib.Core.Logic.{_↔_, _⊎_}
+use mathlib.Core.Path.{_≡_}
+use Prim.Native.Nat.{ℕ, zero, suc, _+_, _≤_, _<_}
+use lib.Dec.{eqb}
+use lib.ListN.{length, getD}
+use Rattle.words.specs.Words.{if_then_else_}
+use Rattle.units.specs.Units.{percentOf}
+use Rattle.units.specs.declared.Step.{Step}
+use Rattle.vault.specs.Job.{Switch}
+use Rattle.vault.specs.Vault.{inSetup}
+use Rattle.vault.specs.declared.Mode.{Mode}
+use Rattle.vault.specs.declared.Mode.the-variants.{Normal, Setup, Factory}
+use Rattle.paddle.specs.Paddle.{fresh, gesture}
+use Rattle.paddle.specs.declared.Gesture.{Gesture}
+use Rattle.paddle.specs.declared.Gesture.the-variants as gestures
+use Rattle.paddle.specs.declared.Paddle.{Paddle}
+use Rattle.registers.specs.Places.{counterPlace, savedPlace, size}
+use Rattle.registers.specs.Write.{byteAfter, counted}
+use Rattle.registers.specs.declared.places.Counter.the-variants.{Setups}
+use Rattle.registers.specs.declared.write.Write.the-variants as write
+use Rattle.acts.specs.Gestures.{leads}
+use Rattle.switch.specs.Switch.{Event, Plain, event, press, release, tick}
+use Rattle.switch.specs.Respond.{respond, startedFrom}
+use Rattle.promises.specs.Alters.{byteAt}
+use Rattle.promises.specs.Bounds.{Sane}
+use Rattle.promises.specs.Cases.{pressOf, runOf, ticksOf, with48}
+use Rattle.promises.specs.Demand3.{Outside}
+use Rattle.promises.specs.Modes.{Closes, modeAt}
+use Rattle.promises.specs.Opening.{Enters}
+
+-- A run of so many taps is closed.
+unfoldable pub closed : ℕ → Gesture → Bool
+closed count gestures.Nothing = false
+closed count (gestures.Taps n) = eqb n count
+closed count gestures.Hold = false
+closed count gestures.Release = false
+
+-- The gesture enters Setup: five taps that find Normal. It sets the factory values: ten taps that find Setup.
+unfoldable pub opens : Mode → Gesture → Bool
+opens Normal g = closed 5 g
+opens Setup g = false
+opens Factory g = false
+
+unfoldable pub resets : Mode → Gesture → Bool
+resets Normal g = false
+resets Setup g = closed 10 g
+resets Factory g = false
+
+-- How many gestures of a tick enter Setup, and whether one sets the factory values.
+unfoldable pub entries : Mode → List Paddle → ℕ
+entries mode [] = 0
+entries mode (p ∷ ps) = (if opens mode (gesture p) then 1 else 0) + entries (leads mode (gesture p)) ps
+
+unfoldable pub reset : Mode → List Paddle → Bool
+reset mode [] = false
+reset mode (p ∷ ps) = resets mode (gesture p) || reset (leads mode (gesture p)) ps
+
+-- So many more in a counter, which stops at 255.
+unfoldable pub countedBy : ℕ → ℕ → ℕ
+countedBy zero old = old
+countedBy (suc n) old = countedBy n (counted old)
+
+-- The byte of a place after a tick that leaves this level: 0xFA counts the entries, 0xF9 has the percent where the tick saves, and every
+-- other place has its factory value where a gesture sets them, or the byte that it had.
+unfoldable pub tickedByte : Switch Plain → Step → ℕ → ℕ → ℕ
+tickedByte s level place old =
+    if eqb place (counterPlace Setups) then countedBy (entries (s .plain .core .mode) (s .plain .paddles)) old
+    else if eqb place savedPlace then (if eqb (s .plain .core .save) 0 then percentOf level .0 else old)
+    else if reset (s .plain .core .mode) (s .plain .paddles) then byteAfter write.Factory [] place old
+    else old
+
+-- All 256 registers after any tick, in any mode, with any number of paddles.
+abbrev pub EveryTick : Type 0
+EveryTick =
+    (s : Switch Plain) (room place : ℕ) → 48 ≤ room → Sane (s .plain) → place < size
+    → byteAt (respond s (event room tick) .next) place ≡ tickedByte s (respond s (event room tick) .next .plain .core .dimmer .level) place (byteAt s place)
+
+-- Which ticks set the factory values: those in which a paddle closes ten taps and finds Setup. Setup may be the mode before the tick, or
+-- made within it; the mode after it may be any.
+pub record SetsFactory (s : Switch Plain) : Type 0 where
+  pub paddle : ℕ
+  pub closes : Closes s paddle Setup 10
+
+abbrev pub FactoryExactly : Type 0
+FactoryExactly = (s : Switch Plain) → (reset (s .plain .core .mode) (s .plain .paddles) ≡ true) ↔ SetsFactory s
+
+-- From outside Setup it takes five taps of an earlier paddle.
+pub record OpenedBefore (s : Switch Plain) (i : ℕ) : Type 0 where
+  pub paddle : ℕ
+  pub earlier : paddle < i
+  pub closes : Closes s paddle Normal 5
+
+abbrev pub FactoryFromOutside : Type 0
+FactoryFromOutside = (s : Switch Plain) (i : ℕ) → Outside s → Closes s i Setup 10 → OpenedBefore s i
+
+-- The next tick passes Setup unseen: Setup is among the modes that its gestures find, and neither the mode before it nor the one after it is Setup.
+pub record PassesUnseen (s : Switch Plain) : Type 0 where
+  pub before : Outside s
+  pub paddle : ℕ
+  pub there : paddle < length (s .plain .paddles)
+  pub finds : modeAt s paddle ≡ Setup
+  pub after : inSetup (modeAt s (length (s .plain .paddles))) ≡ false
+
+-- The events that enter Setup from outside and leave the switch outside are those ticks, and no others.
+abbrev pub UnseenExactly : Type 0
+UnseenExactly =
+    (s : Switch Plain) (e : Event) → Outside s
+    → (Enters s e × Outside (respond s e .next)) ↔ ((48 ≤ e .room) × ((e .deed ≡ tick) × PassesUnseen s))
+
+-- Each of them counts in 0xFA.
+abbrev pub UnseenCounts : Type 0
+UnseenCounts = (s : Switch Plain) → PassesUnseen s → 1 ≤ entries (s .plain .core .mode) (s .plain .paddles)
+
+-- With a top and a bottom paddle: five taps of the top, and two or ten of the bottom that close at the same tick.
+pub record BothClose (s : Switch Plain) (count : ℕ) : Type 0 where
+  pub mode : s .plain .core .mode ≡ Normal
+  pub top : gesture (getD (s .plain .paddles) 0 fresh) ≡ gestures.Taps 5
+  pub bottom : gesture (getD (s .plain .paddles) 1 fresh) ≡ gestures.Taps count
+
+abbrev pub OfTwoPaddles : Type 0
+OfTwoPaddles = (s : Switch Plain) → Sane (s .plain) → PassesUnseen s ↔ (BothClose s 2 ⊎ BothClose s 10)
+
+-- Both kinds are reached from every start, by the paddles alone: a tap of the top with these events in it ..
+abbrev pub around : List Event → List Event
+around es = with48 (press 0) ∷ (es ++ with48 (release 0) ∷ [])
+
+-- .. three of them alone and two with a tap of the bottom in each, or five with two of the bottom in each; then the ticks before the one
+-- that closes both runs.
+abbrev pub alone : List Event
+alone = around (ticksOf 60)
+
+abbrev pub withOne : List Event
+withOne = around (pressOf 60 1)
+
+abbrev pub withTwo : List Event
+withTwo = around (pressOf 60 1 ++ pressOf 60 1)
+
+abbrev pub throughToNormal : List Event
+throughToNormal = alone ++ (alone ++ (alone ++ (withOne ++ (withOne ++ ticksOf 179))))
+
+abbrev pub throughToFactory : List Event
+throughToFactory = withTwo ++ (withTwo ++ (withTwo ++ (withTwo ++ (withTwo ++ ticksOf 179))))
+
+-- What the next tick does there: it passes Setup unseen and leaves this mode.
+pub record Reaches (s : Switch Plain) (to : Mode) : Type 0 where
+  pub passes : PassesUnseen s
+  pub mode : respond s (with48 tick) .next .plain .core .mode ≡ to
+
+pub record ReachedByTaps : Type 0 where
+  pub normal : (image : List ℕ) → Reaches (runOf (startedFrom image) throughToNormal) Normal
+  pub factory : (image : List ℕ) → Reaches (runOf (startedFrom image) throughToFactory) Factory
+  pub sets : (image : List ℕ) → SetsFactory (runOf (startedFrom image) throughToFactory)
+
+-- All that is promised of the ticks that pass Setup.
+pub record Passing : Type 0 where
+  pub tick : EveryTick
+  pub factory : FactoryExactly
+  pub outside : FactoryFromOutside
+  pub unseen : UnseenExactly
+  pub counts : UnseenCounts
+  pub two : OfTwoPaddles
+  pub reached : ReachedByTaps
