@@ -62,7 +62,7 @@ happened say deed s =
 unfoldable pub told : ℕ → Deed → Scene → Done
 told letter deed s = if not (s .there) then done s (none letter) else happened (answered letter) deed s
 
--- "start from the image given in hex. Any byte count; a wrong one is refused 1, and there is then no switch. No buffer."
+-- docs/SCRIPT.md, `i`: a count other than 256 is refused, and then there is no switch. No buffer.
 unfoldable pub begun : List ℕ → Scene → Done
 begun image s =
     done (scene (whole image) (startNext image (s .switch .plain .registers)) (s .room) (s .buffer)) (started (startAnswer image))
