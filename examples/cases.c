@@ -1,5 +1,6 @@
-/* Cases (a) to (d) of document 01's "Numbers to test by", played through the library as a C program would: network 1, unit 5,
- * level step 80, Normal, dimming capable. Prints a line for each and answers 0 only where all came out as the document has them. */
+/* Cases (a) to (d) of document 01's "Numbers to test by", played through the library as a C program would: unit 5 of
+ * network 1, in Normal at step 80, its load one that dims. Prints a line for each and answers 0 only where
+ * all came out as the document has them. */
 #include <stdio.h>
 #include <string.h>
 
@@ -48,7 +49,7 @@ static int case_a(void)
                                          && memcmp(out, tells, sizeof tells) == 0 && rest);
 }
 
-/* (b) Goto on link 3 snaps to step 100. */
+/* (b) Goto by link 3, at once. */
 static int case_b(void)
 {
     static const uint8_t goes[] = {0x89, 0x00, 0x01, 0x03, 0x09, 0x22, 0x32, 0x00, 0x16};

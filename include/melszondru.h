@@ -41,22 +41,22 @@ struct melszondru {
  *          2 the buffer is shorter than 48 bytes
  *          3 the contact is above 3
  *          4 the packet is under 7 bytes      5 over 24 bytes
- *          6 its length field differs from the byte count
- *          7 the sum of all its bytes is not 0 modulo 256
- *          8 the reserved header bit is set
- *          9 the network is neither 0 nor register 0x00
- *         10 direct: the destination is neither 0 nor register 0x01; link: no matching component
- *         11 the command is not listed
- *         12 wrong argument count or register range
- *         13 not permitted here
- *         14 Start Setup with a wrong password
+ *          6 it says another length than it has
+ *          7 its bytes do not add up to 0 modulo 256
+ *          8 bit 7 of its byte 1 is set
+ *          9 it is for another network: its number is not register 0x00's, and not 0, which is for all
+ *         10 it is for another unit (register 0x01; 0 is for all), or for a link that no component has
+ *         11 no such command
+ *         12 the command is there, its arguments do not fit, or its registers go past 0xFF
+ *         13 the command is not for this kind of packet, this destination, this mode, this load or source 0
+ *         14 the password of a Start Setup is wrong
  * count    the packets sent, 0 to 2; first and second their lengths, 0 where there is none
  * level    the level in steps, 0 to 200; output what the output shows of it
  * colour   the lamp: 0 black, 1 red, 2 green, 3 orange
  * mode     0 Normal, 1 Setup, 2 Factory Default
  *
- * On a refusal (number above 0) count and lengths are 0, the rest shows the switch as it stands, and the switch is as it was,
- * except that 4 to 8 start the lamp's black blink. */
+ * On a refusal (number above 0) nothing is sent, so count, first and second are 0; the switch is as it was, but for the lamp's
+ * black blink that 4 to 8 start, and the rest of the answer shows it so. */
 struct melszondru_answer {
     uint8_t number;
     uint8_t count;
@@ -77,7 +77,8 @@ struct melszondru_answer {
 struct melszondru_answer melszondru_start(const uint8_t *image, size_t length, uint16_t counters[MELSZONDRU_COUNTERS],
                                           uint8_t numbers[MELSZONDRU_NUMBERS], uint8_t registers[MELSZONDRU_REGISTERS]);
 
-/* A press edge of a contact: 0 local top, 1 local bottom, 2 slave top, 3 slave bottom. Answers 0, 2 or 3; sends nothing. */
+/* A press edge of a contact: 0 and 1 are the local ones, 2 and 3 the slave ones; even is top, odd is bottom. Answers 0, 2
+ * or 3; sends nothing. */
 struct melszondru_answer melszondru_press(uint16_t counters[MELSZONDRU_COUNTERS], uint8_t numbers[MELSZONDRU_NUMBERS],
                                           uint8_t registers[MELSZONDRU_REGISTERS], uint8_t contact, uint8_t *out, size_t room);
 
@@ -94,7 +95,8 @@ struct melszondru_answer melszondru_receive(uint16_t counters[MELSZONDRU_COUNTER
                                             uint8_t registers[MELSZONDRU_REGISTERS], const uint8_t *packet, size_t length,
                                             uint8_t *out, size_t room);
 
-/* A restart: the registers and the password stay, all else is as after a start. Answers 0 or 2; sends nothing. */
+/* A restart: the password stays, and the registers but for 0xFC, which counts one more; all else is as after a start. Answers
+ * 0 or 2; sends nothing. */
 struct melszondru_answer melszondru_restart(uint16_t counters[MELSZONDRU_COUNTERS], uint8_t numbers[MELSZONDRU_NUMBERS],
                                             uint8_t registers[MELSZONDRU_REGISTERS], uint8_t *out, size_t room);
 

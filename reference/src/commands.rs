@@ -108,7 +108,7 @@ impl Switch {
         }
     }
 
-    /// "Replies go to the sender"
+    /// To whoever asked (01, Commands, 8).
     fn reply(&self, command: u8, arguments: &[u8], sender: u8, sent: &mut Sent) {
         let address = Address {
             link: false,
@@ -130,7 +130,7 @@ impl Switch {
         sent.send(&address, &message[..2 + count as usize]);
     }
 
-    /// "Outside Setup, Get Registers sends 0 for 0x02 and 0x03."
+    /// The password shows in Setup alone (01, Commands, 9).
     fn shown_register(&self, address: u8) -> u8 {
         let secret = address == PASSWORD || address == PASSWORD + 1;
         if secret && self.mode != Mode::Setup {
@@ -170,7 +170,7 @@ fn are_arguments_right(command: u8, arguments: &[u8]) -> bool {
     }
 }
 
-/// 1 to 16 registers; "A range past 0xFF is 12."
+/// 1 to 16 registers, none behind 0xFF (01, Commands, 6).
 fn is_range(first: u8, count: usize) -> bool {
     (1..=MOST_VALUES).contains(&count) && first as usize + count <= 256
 }

@@ -32,7 +32,7 @@ pub struct Dimmer {
 }
 
 impl Dimmer {
-    /// "level twice the value in 0xF9, or 0 where that value is above 100"
+    /// From the saved percent; one above 100 counts as 0.
     pub fn new(saved: u8) -> Dimmer {
         let level = if saved > HIGHEST_PERCENT {
             0
@@ -51,12 +51,12 @@ impl Dimmer {
         self.level
     }
 
-    /// "step s is reported as percent s/2 rounded down"
+    /// Half the step, an odd one rounded down.
     pub fn percent(&self) -> u8 {
         self.level / 2
     }
 
-    /// Sets a level given in percents; a rate above 15 is the default rate.
+    /// Sets a level given in percents; a rate above 15 asks for the default.
     pub fn set(&mut self, percent: u8, rate: u8, registers: &Registers) {
         let mut target = if percent > HIGHEST_PERCENT {
             self.last_on
@@ -95,7 +95,7 @@ impl Dimmer {
         };
     }
 
-    /// "stopping nothing does nothing"
+    /// At rest it does nothing (01, Levels and fades, 9).
     pub fn stop(&mut self) {
         if matches!(self.motion, Motion::Idle) {
             return;
@@ -106,7 +106,7 @@ impl Dimmer {
         self.motion = Motion::Idle;
     }
 
-    /// "value missing or 0 means 30"; it leaves the Last On Level alone.
+    /// A value of 0 stands for 30; the Last On Level stays.
     pub fn blink(&mut self, value: u8) {
         let value = if value == 0 { BLINK_VALUE } else { value };
         let ticks = 4 * value as u16;

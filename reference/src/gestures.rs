@@ -20,7 +20,7 @@ const SEND_PERCENT: u8 = 14;
 const UNUSED: u8 = 255;
 
 impl Switch {
-    /// "the mode meant is the one the event finds, before it acts"
+    /// By the mode before the act (01, Paddles, 12).
     pub(crate) fn act(&mut self, side: usize, gesture: Gesture, sent: &mut Sent) {
         match (self.mode, gesture) {
             (Mode::Setup, Gesture::Taps(2)) => self.enter(Mode::Normal),
@@ -48,7 +48,7 @@ impl Switch {
         }
     }
 
-    /// "level and rate for top single, top double, bottom single, bottom double"
+    /// The action table: two actions for each paddle (01, Registers, 4).
     fn set_from_actions(&mut self, side: usize, double: u8) {
         let action = ACTIONS + 4 * side as u8 + 2 * double;
         let level = self.registers.at(action);
@@ -56,7 +56,7 @@ impl Switch {
         self.dimmer.set(level, rate, &self.registers);
     }
 
-    /// "Hold, if capable, sets 100 (top) or 0 (bottom) at the default rate"
+    /// A fade to the paddle's end, where the load can dim (01, Paddles, 7).
     fn hold(&mut self, side: usize) {
         if self.registers.is_capable() {
             let level = if side == TOP { 100 } else { 0 };
@@ -89,8 +89,8 @@ impl Switch {
     }
 }
 
-/// "Trailing arguments of 255 are left off, except the first argument of 0x22
-/// and 0x23, where 255 is a level."
+/// An entry without the 255s at its end, but Goto and Fade Start keep their
+/// level (01, Paddles, 15).
 fn used_length(entry: &[u8; 3]) -> usize {
     if entry[2] != UNUSED {
         3

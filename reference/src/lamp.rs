@@ -31,12 +31,12 @@ impl Lamp {
         }
     }
 
-    /// "Mode blinks count from entry, colour first."
+    /// The mode's blinks begin anew (01, Lamp, start, factory values, 2).
     pub fn enter_mode(&mut self) {
         self.phase = 0;
     }
 
-    /// "a newer one replaces it"
+    /// An older blink is forgotten.
     pub fn start_blink(&mut self, colour: Colour) {
         self.blink = colour;
         self.blink_left = BLINK_TICKS;
@@ -68,7 +68,7 @@ impl Lamp {
         }
     }
 
-    /// "60 ticks colour and 60 black, high bit first, .. green 1 and red 0"
+    /// From bit 3 down, each bit as colour and then black; green is 1.
     fn version_colour(&self, version: u8) -> Colour {
         let elapsed = VERSION_TICKS - self.version_left;
         let bit = 3 - elapsed / WHOLE as u16;

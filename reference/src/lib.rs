@@ -1,5 +1,5 @@
-//! The logic of a wall dimmer: events in; level, lamp, mode, registers and
-//! packets out. `script` drives one switch from a text file.
+//! A wall dimmer's logic, written in place and without proofs. `script`
+//! drives one switch from a text file.
 
 #![forbid(unsafe_code)]
 

@@ -76,7 +76,7 @@ impl<'a> Sent<'a> {
         }
     }
 
-    /// "Packets sent fill the places in order; other bytes keep their values."
+    /// Into the next free place; nothing else is written.
     pub fn send(&mut self, address: &Address, message: &[u8]) {
         let place = self.count as usize;
         let length = message.len() + MESSAGE + 1;

@@ -64,7 +64,7 @@ impl Paddle {
         if self.contacts == 0 && self.taps == 0 {
             return None;
         }
-        // The gap "runs while up and down".
+        // The gap goes on whether the paddle is up or down.
         self.gap = (self.gap + 1).min(GAP_TICKS);
         if self.contacts != 0 {
             return self.tick_down();

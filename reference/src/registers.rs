@@ -48,7 +48,7 @@ impl Registers {
         self.0[first..first + values.len()].copy_from_slice(values);
     }
 
-    /// "counters stop at 255"
+    /// A counter at 255 stays there.
     pub fn count_up(&mut self, address: u8) {
         self.put(address, self.at(address).saturating_add(1));
     }
@@ -65,8 +65,8 @@ impl Registers {
         self.at(DIMMER_OPTIONS) & 0x0F
     }
 
-    /// The address of "the first of the sixteen whose link equals the
-    /// destination; 0 and 255 never match".
+    /// The address of the first component with that link, if it is one
+    /// (01, Registers, 10).
     pub fn matching_component(&self, destination: u8) -> Option<u8> {
         if !is_link(destination) {
             return None;
@@ -97,7 +97,7 @@ impl Registers {
     }
 }
 
-/// "Link numbers 1 to 254 are valid."
+/// Neither 0 nor 255 (01, Registers, 9).
 pub fn is_link(number: u8) -> bool {
     number != 0 && number != 255
 }

@@ -1,5 +1,5 @@
-//! The script language: one event a line, driving one switch, with a line of
-//! text for what each event shows.
+//! The script language: lines that drive one switch, with a line of text for
+//! what an event or a run of ticks shows.
 
 use std::io::{Result, Write};
 

@@ -101,7 +101,7 @@ impl Switch {
                 self.done(&sent)
             }
             Err(number) => {
-                // "black on 4 to 8 .. 9 to 14 start none"
+                // Damage blinks black; what is sound and refused does not blink.
                 if number <= RESERVED_SET {
                     self.lamp.start_blink(Colour::Black);
                 }
@@ -134,7 +134,7 @@ impl Switch {
         }
     }
 
-    /// "every 480th tick since start or restart the percent goes to 0xF9"
+    /// The last stage of a tick (01, Paddles, 16).
     #[inline]
     fn save_level(&mut self) {
         self.save_left -= 1;

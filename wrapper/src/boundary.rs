@@ -1,4 +1,5 @@
-//! The boundary, word for word as `include/melszondru.h` has it.
+//! The functions and the answer of `include/melszondru.h`, declared for Rust by hand: the same names, and the same arguments in the
+//! same order. The switch's arrays and the image to fill are references here, where C has pointers.
 
 #[repr(C)]
 #[derive(Clone, Copy, PartialEq, Eq, Debug)]
