@@ -1,13 +1,14 @@
--- Into plain numbers and back is the identity, keeping what was read changes nothing, and an event in numbers has one outcome.
+-- Into plain numbers and back is the identity, keeping what was read changes nothing, an event in numbers has one outcome, and a
+-- start leaves all or forgets all.
 use mathlib.Core.Bool.{Bool, true, false}
 use mathlib.Core.List.{List, [], _∷_}
 use mathlib.Core.Path.{_≡_, refl, sym, ap, _∙_}
 use Prim.Native.Nat.{ℕ, zero, suc}
 use native.Mathlib.Omega.{arith}
 use lib.Dec.{eqb}
-use lib.ListN.{length, getD, drop}
+use lib.ListN.{length, getD, drop, replicate}
 use lib.Seq.{set-getD}
-use borrow.Author.Tests.{eq-eqb, eqb-true}
+use borrow.Author.Tests.{eq-eqb, ne-eqb, eqb-true}
 use Rattle.words.specs.Words.{if_then_else_}
 use Rattle.words.proofs.Laws.{cases}
 use Rattle.words.proofs.Laws.{one-outcome as only}
@@ -26,8 +27,9 @@ use Rattle.lamp.specs.declared.Lamp.{Lamp}
 use Rattle.paddle.specs.declared.Paddle.{Paddle}
 use Rattle.acts.specs.Core.{core}
 use Rattle.acts.specs.declared.Core.{Core}
-use Rattle.switch.specs.Switch.{Deed, Plain}
-use Rattle.switch.specs.Respond.{Responds, Starts}
+use Rattle.registers.specs.Places.{size}
+use Rattle.switch.specs.Switch.{Deed, Plain, held}
+use Rattle.switch.specs.Respond.{Responds, Starts, noAnswer, nobody, startAnswer, startedFrom, startNext, whole}
 use Rattle.switch.specs.Code.{lived}
 use Rattle.switch.specs.declared.Live.{Live}
 use Rattle.switch.specs.declared.Answer.{Answer as SwitchAnswer}
@@ -37,7 +39,7 @@ use Rattle.host.specs.Mirror.{huePlace, leftPlace, modePlace, periodPlac
 use Rattle.host.specs.Mirror.{paddleOf, paddlesOf, dimmerOf, lampOf, coreOf, passwordOf, liveOf, answerOf, switchAnswer}
 use Rattle.host.specs.Keeping.{kept, keptFlag, keptMode, keptHue, keptKind, keptCourse, keptTarget, keptTimes, keptAllTimes, keptTimers, keptRun, keptCounters}
 use Rattle.host.specs.Keeping.{keptPaddle, keptPaddles, keptPassword, keptDimmer, keptCore, keptNumbers}
-use Rattle.host.specs.Host.{inside, Begins, KeepsWhatItRead, MirrorsBack, OneOutcome, Speaks, Tells}
+use Rattle.host.specs.Host.{inside, Begins, KeepsWhatItRead, MirrorsBack, OneOutcome, RefusedStartLeavesAll, Speaks, StartForgets, Tells}
 use Rattle.host.specs.declared.Answer.{Answer}
 
 -- Each type in numbers and back.
@@ -136,12 +138,12 @@ spread-all (suc n) [] e = absurd (omega arith)
 spread-all (suc n) (x ∷ l) e = ap (λ (r : List ℕ). x ∷ r) (spread-all n l (omega arith))
 
 -- A switch in numbers and back.
-abbrev whole : Password → Mode → Step → Step → Motion → Lamp → ℕ → Paddle → Paddle → Live
-whole w mode level last motion lamp save top bottom = lived w (core mode (dimmer level last motion) lamp save) (top ∷ (bottom ∷ []))
+abbrev assembled : Password → Mode → Step → Step → Motion → Lamp → ℕ → Paddle → Paddle → Live
+assembled w mode level last motion lamp save top bottom = lived w (core mode (dimmer level last motion) lamp save) (top ∷ (bottom ∷ []))
 
 spread-back :
     (w : Password) (mode : Mode) (level last : Step) (motion : Motion) (lamp : Lamp) (save : ℕ) (top bottom : Paddle) (counters numbers : List ℕ)
-    → let l = whole w mode level last motion lamp save top bottom in
+    → let l = assembled w mode level last motion lamp save top bottom in
     liveOf (keptCounters l (spread 11 counters)) (keptNumbers l (spread 14 numbers)) ≡ l
 unfolding liveOf coreOf dimmerOf lampOf passwordOf paddlesOf paddleOf keptCounters keptRun keptTimers keptCourse keptAllTimes keptTimes keptNumbers keptCore keptDimmer keptKind keptTarget keptHue keptMode keptPassword keptPaddles keptPaddle keptFlag kept
 spread-back w mode level last Idle lamp save top bottom counters numbers = simp (flag-kept, mode-kept, hue-kept, motion-kept, idle-told)
@@ -260,18 +262,70 @@ speaks deed counters numbers all out live o r counters′ numbers′ all′ out�
       bytes = h .bytes;
     }
 
+-- Which of two an image of that length picks.
+if-whole : (image x y : List ℕ) → length image ≡ size → (if whole image then x else y) ≡ x
+if-whole image x y long = rw (eq-eqb (length image) size long)
+
+unless-whole : (image x y : List ℕ) → (length image ≡ size → ⊥) → (if whole image then x else y) ≡ y
+unless-whole image x y other = rw (ne-eqb (length image) size other)
+
+-- The start in numbers by its two ways: accepted, over cleared arrays, and refused.
 pub begins :
     (image counters numbers all : List ℕ) (o : Outcome) (r : Answer) (counters′ numbers′ all′ : List ℕ)
+    → length image ≡ size
     → Starts image all (o .answer) (o .live) all′
-    → Tells o counters numbers r counters′ numbers′
+    → Tells o (replicate 11 0) (replicate 14 0) r counters′ numbers′
     → Begins image counters numbers all r counters′ numbers′ all′
-begins image counters numbers all o r counters′ numbers′ all′ h tells =
+unfolding startNext
+begins image counters numbers all o r counters′ numbers′ all′ long h tells =
+    let same : held (o .live) all′ ≡ startedFrom image = h .next ∙ rw (eq-eqb (length image) size long) in
     record {
       answered = tells .answered ∙ ap answerOf (h .answered);
-      counted = tells .counted ∙ ap (λ (s : Switch Plain). keptCounters (inside s) counters) (h .next);
-      numbered = tells .numbered ∙ ap (λ (s : Switch Plain). keptNumbers (inside s) numbers) (h .next);
-      registers = ap (λ (s : Switch Plain). s .plain .registers) (h .next);
+      counted =
+          tells .counted ∙ ap (λ (s : Switch Plain). keptCounters (inside s) (replicate 11 0)) same ∙ sym (if-whole image _ counters long);
+      numbered =
+          tells .numbered ∙ ap (λ (s : Switch Plain). keptNumbers (inside s) (replicate 14 0)) same ∙ sym (if-whole image _ numbers long);
+      registers = ap (λ (s : Switch Plain). s .plain .registers) same ∙ sym (if-whole image _ all long);
     }
+
+pub begins-none :
+    (image counters numbers all : List ℕ) (answer : SwitchAnswer) (live : Live) (r : Answer) (all′ : List ℕ)
+    → (length image ≡ size → ⊥)
+    → Starts image all answer live all′
+    → r ≡ answerOf answer
+    → Begins image counters numbers all r counters numbers all′
+unfolding startNext
+begins-none image counters numbers all answer live r all′ other h told =
+    let same : held live all′ ≡ held nobody all = h .next ∙ rw (ne-eqb (length image) size other) in
+    record {
+      answered = told ∙ ap answerOf (h .answered);
+      counted = sym (unless-whole image _ counters other);
+      numbered = sym (unless-whole image _ numbers other);
+      registers = ap (λ (s : Switch Plain). s .plain .registers) same ∙ sym (unless-whole image _ all other);
+    }
+
+pub refused-start-leaves-all : RefusedStartLeavesAll
+unfolding startAnswer answerOf
+refused-start-leaves-all image counters numbers all r c n a other b =
+    let told : r ≡ answerOf noAnswer = b .answered ∙ rw (ne-eqb (length image) size other) in (
+      ap (λ (x : Answer). x .number) told,
+      (
+        b .counted ∙ unless-whole image _ counters other,
+        (b .numbered ∙ unless-whole image _ numbers other, b .registers ∙ unless-whole image _ all other),
+      ),
+    )
+
+pub start-forgets : StartForgets
+start-forgets image long counters numbers all r c n a x counters′ numbers′ all′ s c′ n′ a′ y = (
+  only r s (x .answered) (y .answered),
+  (
+    only c c′ (x .counted ∙ if-whole image _ counters long) (y .counted ∙ if-whole image _ counters′ long),
+    (
+      only n n′ (x .numbered ∙ if-whole image _ numbers long) (y .numbered ∙ if-whole image _ numbers′ long),
+      only a a′ (x .registers ∙ if-whole image _ all long) (y .registers ∙ if-whole image _ all′ long),
+    ),
+  ),
+)
 
 pub one-outcome : OneOutcome
 one-outcome = record {

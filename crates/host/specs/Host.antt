@@ -2,11 +2,13 @@
 use mathlib.Core.List.{List}
 use mathlib.Core.Path.{_≡_}
 use Prim.Native.Nat.{ℕ}
-use lib.ListN.{length}
+use lib.ListN.{length, replicate}
+use Rattle.words.specs.Words.{if_then_else_}
 use Rattle.vault.specs.Job.{Answered, Switch}
+use Rattle.registers.specs.Places.{size}
 use Rattle.post.specs.Post.{placed}
 use Rattle.switch.specs.Switch.{Deed, Plain, Shown, event, held}
-use Rattle.switch.specs.Respond.{respond, startAnswer, startNext}
+use Rattle.switch.specs.Respond.{respond, startAnswer, startedFrom, whole}
 use Rattle.switch.specs.declared.Live.{Live}
 use Rattle.switch.specs.declared.Answer.{Answer as SwitchAnswer}
 use Rattle.switch.specs.declared.Outcome.{Outcome}
@@ -30,12 +32,12 @@ pub record Speaks (deed : Deed) (counters numbers all out : List ℕ) (answer : 
   pub registers : all′ ≡ responded deed counters numbers all (length out) .next .plain .registers
   pub bytes : out′ ≡ placed (responded deed counters numbers all (length out) .shown .sent) out
 
--- What the start promises.
+-- What the start promises: accepted, the switch of the image is written over cleared arrays; refused, every array is as it was.
 pub record Begins (image counters numbers all : List ℕ) (answer : Answer) (counters′ numbers′ all′ : List ℕ) : Type 0 where
   pub answered : answer ≡ answerOf (startAnswer image)
-  pub counted : counters′ ≡ keptCounters (inside (startNext image all)) counters
-  pub numbered : numbers′ ≡ keptNumbers (inside (startNext image all)) numbers
-  pub registers : all′ ≡ startNext image all .plain .registers
+  pub counted : counters′ ≡ if whole image then keptCounters (inside (startedFrom image)) (replicate 11 0) else counters
+  pub numbered : numbers′ ≡ if whole image then keptNumbers (inside (startedFrom image)) (replicate 14 0) else numbers
+  pub registers : all′ ≡ if whole image then startedFrom image .plain .registers else all
 
 -- An outcome of the switch, kept and told.
 pub record Tells (o : Outcome) (counters numbers : List ℕ) (answer : Answer) (counters′ numbers′ : List ℕ) : Type 0 where
@@ -62,3 +64,18 @@ pub record OneOutcome : Type 0 where
   pub start : (image counters numbers all : List ℕ) (r s : Answer) (c c′ n n′ a a′ : List ℕ)
       → Begins image counters numbers all r c n a → Begins image counters numbers all s c′ n′ a′
       → (r ≡ s) × ((c ≡ c′) × ((n ≡ n′) × (a ≡ a′)))
+
+-- A refused start is answered 1 and leaves every array exactly as it was.
+abbrev pub RefusedStartLeavesAll : Type 0
+RefusedStartLeavesAll =
+    (image counters numbers all : List ℕ) (r : Answer) (c n a : List ℕ) → (length image ≡ size → ⊥)
+    → Begins image counters numbers all r c n a
+    → (r .number ≡ 1) × ((c ≡ counters) × ((n ≡ numbers) × (a ≡ all)))
+
+-- An accepted start hangs on the image alone: from one image it leaves the same in all three arrays, whatever stood there.
+abbrev pub StartForgets : Type 0
+StartForgets =
+    (image : List ℕ) → length image ≡ size
+    → (counters numbers all : List ℕ) (r : Answer) (c n a : List ℕ) → Begins image counters numbers all r c n a
+    → (counters′ numbers′ all′ : List ℕ) (s : Answer) (c′ n′ a′ : List ℕ) → Begins image counters′ numbers′ all′ s c′ n′ a′
+    → (r ≡ s) × ((c ≡ c′) × ((n ≡ n′) × (a ≡ a′)))

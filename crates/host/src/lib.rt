@@ -28,6 +28,7 @@ use mirror::live_of;
 use mirror::paddle_of;
 use mirror::paddles_of;
 use mirror::password_of;
+use registers::places::SIZE;
 use switch::ROOM;
 use switch::Sent;
 use switch::edges::CONTACTS;
@@ -51,6 +52,8 @@ pub struct Answer {
     pub mode: u8,
 }
 
+// Refused, it leaves every array as it was. Accepted, it clears the counters and numbers first, so that of a switch that stood
+// there nothing is left.
 #[no_mangle]
 pub extern "C" fn melszondru_start(
     image: &[u8],
@@ -61,6 +64,11 @@ pub extern "C" fn melszondru_start(
     ensures { λ r. ⌜ Begins (now (image .entry)) (now (counters .entry)) (now (numbers .entry)) (now (all .entry)) r (now (counters .exit)) (now (numbers .exit)) (now (all .exit)) ⌝ }
 {
     let outcome = switch::start::start(image, all);
+    if image.len() != SIZE {
+        return answer_of(outcome.answer);
+    }
+    *counters = [0; 11];
+    *numbers = [0; 14];
     tell(outcome, counters, numbers)
 }
 

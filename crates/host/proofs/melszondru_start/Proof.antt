@@ -1,4 +1,5 @@
-use Rattle.host.proofs.Laws.{begins}
+use Rattle.host.proofs.Laws.{begins, begins-none}
+use native.Mathlib.Omega.{arith}
 use borrow.Author.Needs.{needs}
 use Rattle.host.proofs.melszondru_start.Statement.{statement}
 use Rattle.host.proofs.melszondru_start.Tie as tie
@@ -6,11 +7,20 @@ use Rattle.host.proofs.melszondru_start.Tie as tie
 start-requires : tie.Need-start-requires
 start-requires c κs = search needs
 
+answer-of-requires : tie.Need-answer-of-requires
+answer-of-requires c κs = search needs
+
+returns : tie.Need-returns
+returns c = begins-none _ _ _ _ _ _ _ _ (λ long. omega arith) (c .before .before .start .ensures) (c .answer-of .ensures)
+
 tell-requires : tie.Need-tell-requires
 tell-requires c κs = search needs
 
-returns : tie.Need-returns
-returns c = begins _ _ _ _ _ _ _ _ _ (c .before .before .before .start .ensures) (c .tell .ensures)
+returns-2 : tie.Need-returns-2
+returns-2 c =
+    let event = c .before .before .before .before .before .before in
+    begins _ _ _ _ _ _ _ _ _ (omega arith) (event .start .ensures) (c .tell .ensures)
 
 pub melszondru-start-spec : {M : Type 1} → statement M
-melszondru-start-spec = tie.close (tie.spec start-requires tell-requires returns)
+melszondru-start-spec =
+    tie.close (tie.spec start-requires answer-of-requires returns tell-requires returns-2)
