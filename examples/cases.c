@@ -1,6 +1,6 @@
 /* Cases (a) to (d) of document 01's "Numbers to test by", played through the library as a C program would: unit 5 of
- * network 1, in Normal at step 80, its load one that dims. Prints a line for each and answers 0 only where
- * all came out as the document has them. */
+ * network 1, in Normal at step 80, its load one that dims. Then what a start leaves in the arrays, refused and accepted.
+ * Prints a line for each and answers 0 only where all came out as the document and the header have them. */
 #include <stdio.h>
 #include <string.h>
 
@@ -8,17 +8,22 @@
 
 static const uint8_t PASSWORD[2] = {0x12, 0x34};
 
-static struct melszondru_answer start(struct melszondru *s)
+/* A start from the first `length` bytes of the image, with one more at its end. */
+static struct melszondru_answer start_from(struct melszondru *s, size_t length)
 {
-    uint8_t image[256] = {0};
-    memset(s, 0, sizeof *s);
+    uint8_t image[257] = {0};
     image[0x00] = 1;
     image[0x01] = 5;
     memcpy(image + 0x02, PASSWORD, 2);
     image[0x40] = 3;    /* the first receive component listens to link 3 */
     image[0x8D] = 0x13; /* dimming capable, default rate 3 */
     image[0xF9] = 40;   /* the saved percent: step 80 */
-    return melszondru_start(image, sizeof image, s->counters, s->numbers, s->registers);
+    return melszondru_start(image, length, s->counters, s->numbers, s->registers);
+}
+
+static struct melszondru_answer start(struct melszondru *s)
+{
+    return start_from(s, MELSZONDRU_REGISTERS);
 }
 
 static struct melszondru_answer receive(struct melszondru *s, const uint8_t *packet, size_t length, uint8_t out[48])
@@ -93,11 +98,55 @@ static int case_d(void)
     return told("(d) the 65,535 wrong passwords", refused == 65535);
 }
 
+/* A switch that is in Setup, fades, and has a contact down. */
+static int busy(struct melszondru *s)
+{
+    static const uint8_t opens[] = {0x09, 0x00, 0x01, 0x05, 0x09, 0x03, 0x12, 0x34, 0x9F};
+    static const uint8_t fades[] = {0x89, 0x00, 0x01, 0x03, 0x09, 0x22, 0x32, 0x05, 0x11};
+    uint8_t out[MELSZONDRU_ROOM];
+    int well = start(s).number == 0 && receive(s, opens, sizeof opens, out).mode == 1;
+    well &= receive(s, fades, sizeof fades, out).number == 0;
+    well &= melszondru_press(s->counters, s->numbers, s->registers, 0, out, sizeof out).number == 0;
+    for (int i = 0; i < 100; i++)
+        well &= melszondru_tick(s->counters, s->numbers, s->registers, out, sizeof out).number == 0;
+    return well && s->counters[5] != 0 && s->counters[10] != 0 && s->numbers[11] != 0;
+}
+
+/* A refused start is 1 and nothing else, and leaves every byte of a running switch. */
+static int case_refused(void)
+{
+    static const size_t lengths[] = {0, 1, 255, 257};
+    static const struct melszondru_answer one = {1, 0, 0, 0, 0, 0, 0, 0};
+    struct melszondru s, before;
+    int well = busy(&s);
+    before = s;
+    for (size_t i = 0; i < sizeof lengths / sizeof *lengths; i++) {
+        struct melszondru_answer a = start_from(&s, lengths[i]);
+        well &= memcmp(&a, &one, sizeof a) == 0 && memcmp(&s, &before, sizeof s) == 0;
+    }
+    return told("a refused start leaves all", well);
+}
+
+/* A start hangs on the image alone: over bytes of 0xFF and over a running switch it leaves what it leaves over zeros. */
+static int case_forgets(void)
+{
+    struct melszondru zeros, ones, running;
+    memset(&zeros, 0, sizeof zeros);
+    memset(&ones, 0xFF, sizeof ones);
+    int well = busy(&running);
+    struct melszondru_answer a = start(&zeros), b = start(&ones), c = start(&running);
+    well &= a.number == 0 && memcmp(&a, &b, sizeof a) == 0 && memcmp(&a, &c, sizeof a) == 0;
+    well &= memcmp(&zeros, &ones, sizeof zeros) == 0 && memcmp(&zeros, &running, sizeof zeros) == 0;
+    return told("a start forgets what was there", well);
+}
+
 int main(void)
 {
     int well = case_a();
     well &= case_b();
     well &= case_c();
     well &= case_d();
+    well &= case_refused();
+    well &= case_forgets();
     return well ? 0 : 1;
 }

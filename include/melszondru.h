@@ -56,7 +56,7 @@ struct melszondru {
  * mode     0 Normal, 1 Setup, 2 Factory Default
  *
  * On a refusal (number above 0) nothing is sent, so count, first and second are 0; the switch is as it was, but for the lamp's
- * black blink that 4 to 8 start, and the rest of the answer shows it so. */
+ * black blink that 4 to 8 start, and the rest of the answer shows it so. On 1 the rest is 0, and shows no switch. */
 struct melszondru_answer {
     uint8_t number;
     uint8_t count;
@@ -71,9 +71,9 @@ struct melszondru_answer {
 /* What an event leaves in its buffer, out and room: the packets sent, the first in front, the second from byte 24 on. Every other
  * byte keeps its value; a refusal changes none. */
 
-/* Starts a switch from a copy of the image. Answers 0 or 1; on 1 there is no switch, and registers keep their bytes. Counters and
- * numbers are read too (a number that stands for what it should is left as it is), so clear the struct before its first start;
- * what else it held does not matter. */
+/* Starts a switch from a copy of the image. Answers 0 or 1. On 0 all three arrays are written whole and hang on the image alone:
+ * whatever they held, they need not be cleared first. On 1 no switch was started, and every array is exactly as it was: a switch
+ * that ran in them is still there, and arrays that held none still hold none. */
 struct melszondru_answer melszondru_start(const uint8_t *image, size_t length, uint16_t counters[MELSZONDRU_COUNTERS],
                                           uint8_t numbers[MELSZONDRU_NUMBERS], uint8_t registers[MELSZONDRU_REGISTERS]);
 

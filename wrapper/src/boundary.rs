@@ -67,3 +67,70 @@ extern "C" {
     ) -> Answer;
     pub fn melszondru_image(numbers: &Numbers, registers: &Registers, image: &mut Registers);
 }
+
+#[cfg(test)]
+mod tests {
+    use super::*;
+
+    /// The three arrays as a caller keeps them.
+    type Arrays = (Counters, Numbers, Registers);
+
+    /// Network 1, unit 5, password 12 34, dimming capable, step 80; one byte too many.
+    fn image() -> [u8; 257] {
+        let mut image = [0; 257];
+        image[0x00..0x04].copy_from_slice(&[1, 5, 0x12, 0x34]);
+        image[0x8D] = 0x13;
+        image[0xF9] = 40;
+        image
+    }
+
+    fn start(image: &[u8], (counters, numbers, registers): &mut Arrays) -> Answer {
+        // SAFETY: a pointer and its length are those of one slice, and no two borrows overlap.
+        unsafe { melszondru_start(image.as_ptr(), image.len(), counters, numbers, registers) }
+    }
+
+    fn running() -> Arrays {
+        let mut arrays = ([0; 11], [0; 14], [0; 256]);
+        assert_eq!(start(&image()[..256], &mut arrays).number, 0);
+        let (counters, numbers, registers) = &mut arrays;
+        let fades = [0x09, 0x00, 0x01, 0x05, 0x09, 0x22, 0x32, 0x05, 0x8F];
+        let mut out = [0; 48];
+        // SAFETY: as above.
+        let answer = unsafe {
+            melszondru_receive(
+                counters,
+                numbers,
+                registers,
+                fades.as_ptr(),
+                fades.len(),
+                out.as_mut_ptr(),
+                out.len(),
+            )
+        };
+        assert_eq!(answer.number, 0);
+        assert!(counters[5] != 0 && counters[10] != 0 && numbers[11] != 0);
+        arrays
+    }
+
+    #[test]
+    fn a_refused_start_leaves_a_running_switch() {
+        let mut arrays = running();
+        for length in [0, 1, 255, 257] {
+            let answer = start(&image()[..length], &mut arrays);
+            assert_eq!((answer.number, answer.level, answer.mode), (1, 0, 0));
+            assert_eq!(arrays, running());
+        }
+    }
+
+    #[test]
+    fn a_start_hangs_on_the_image_alone() {
+        let mut zeros = ([0; 11], [0; 14], [0; 256]);
+        let mut ones = ([0xFFFF; 11], [0xFF; 14], [0xFF; 256]);
+        let mut old = running();
+        let answer = start(&image()[..256], &mut zeros);
+        assert_eq!(start(&image()[..256], &mut ones), answer);
+        assert_eq!(start(&image()[..256], &mut old), answer);
+        assert_eq!(ones, zeros);
+        assert_eq!(old, zeros);
+    }
+}
