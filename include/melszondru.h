@@ -56,7 +56,7 @@ struct melszondru {
  * mode     0 Normal, 1 Setup, 2 Factory Default
  *
  * On a refusal (number above 0) nothing is sent, so count, first and second are 0; the switch is as it was, but for the lamp's
- * black blink that 4 to 8 start, and the rest of the answer shows it so. On 1 the rest is 0, and shows no switch. */
+ * black blink that 4 to 8 start, and the rest of the answer shows it so. On 1 the rest is 0: a refused start shows no switch. */
 struct melszondru_answer {
     uint8_t number;
     uint8_t count;
