@@ -6,7 +6,7 @@ use mathlib.Core.Path.{_≡_, refl, sym, ap, _∙_}
 use Prim.Native.Nat.{ℕ, zero, suc}
 use native.Mathlib.Omega.{arith}
 use lib.Dec.{eqb}
-use lib.ListN.{length, getD, drop, replicate}
+use lib.ListN.{length, getD, drop, length-set, replicate}
 use lib.Seq.{set-getD}
 use borrow.Author.Tests.{eq-eqb, ne-eqb, eqb-true}
 use Rattle.words.specs.Words.{if_then_else_}
@@ -170,6 +170,27 @@ live-back counters numbers l h k two =
 answer-back : (a : SwitchAnswer) → switchAnswer (answerOf a) ≡ a
 unfolding switchAnswer answerOf
 answer-back a = rw (colour-back (a .colour), mode-back (a .mode))
+
+-- What is kept leaves as many counters and numbers as there were.
+course-length : (m : Motion) (l : List ℕ) → length (keptCourse m l) ≡ length l
+unfolding keptCourse
+course-length Idle l = refl
+course-length (Fading target period left) l = simp length-set
+course-length (Blinking period left) l = simp length-set
+
+target-length : (m : Motion) (l : List ℕ) → length (keptTarget m l) ≡ length l
+unfolding keptTarget
+target-length Idle l = refl
+target-length (Fading target period left) l = simp length-set
+target-length (Blinking period left) l = refl
+
+pub counters-length : (live : Live) (l : List ℕ) → length (keptCounters live l) ≡ length l
+unfolding keptCounters keptAllTimes keptTimes keptRun keptTimers
+counters-length live l = simp (length-set, course-length)
+
+pub numbers-length : (live : Live) (l : List ℕ) → length (keptNumbers live l) ≡ length l
+unfolding keptNumbers keptPaddles keptPaddle keptFlag keptCore keptDimmer keptKind keptHue keptMode kept keptPassword
+numbers-length live l = simp (length-set, target-length)
 
 pub mirrors-back : MirrorsBack
 mirrors-back = record { live = live-back; answer = answer-back }
