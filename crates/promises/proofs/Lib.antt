@@ -4,6 +4,8 @@ pub mod Outcomes
 pub mod Bounds
 pub mod Jobs
 pub mod Numbers
+pub mod Ticks
+pub mod Presses
 pub mod Cases
 pub mod Rivals
 pub mod Sequence

@@ -2,34 +2,25 @@
 use mathlib.Core.Bool.{true}
 use mathlib.Core.List.{List, [], _∷_, _++_}
 use mathlib.Core.Path.{_≡_}
-use Prim.Native.Nat.{ℕ, zero, suc, _≤_}
-use lib.ListN.{length, set}
+use Prim.Native.Nat.{ℕ, zero, suc, _%_, _≤_}
+use lib.ListN.{getD, length, set}
 use Rattle.units.specs.Units.{full, off, step}
-use Rattle.units.specs.declared.Step.{Step}
 use Rattle.vault.specs.Job.{Switch}
-use Rattle.vault.specs.Machine.{run}
-use Rattle.vault.specs.Product.{machine}
 use Rattle.vault.specs.Vault.{password}
-use Rattle.vault.specs.declared.Mode.{Mode}
 use Rattle.vault.specs.declared.Mode.the-variants.{Normal, Setup}
-use Rattle.dimmer.specs.Dimmer.{EndsAfter, optionsOf}
+use Rattle.dimmer.specs.Dimmer.{optionsOf}
 use Rattle.dimmer.specs.declared.Motion.the-variants.{Idle}
-use Rattle.lamp.specs.Lamp.{fresh as freshLamp}
-use Rattle.lamp.specs.Promises.{CaseI}
-use Rattle.paddle.specs.Paddle.{fresh, gesture}
-use Rattle.paddle.specs.declared.Gesture.the-variants.{Hold}
-use Rattle.paddle.specs.declared.Paddle.{Paddle}
-use Rattle.registers.specs.Places.{dimmingIn, networkIn, unitIn}
+use Rattle.lamp.specs.declared.Colour.the-variants.{Green, Red}
+use Rattle.registers.specs.Places.{dimmingIn, networkIn, size, unitIn}
 use Rattle.registers.specs.Registers.{found}
 use Rattle.registers.specs.declared.Found.the-variants.{At}
 use Rattle.judge.specs.declared.Order.the-variants as order
-use Rattle.acts.specs.Orders.{performed}
-use Rattle.acts.specs.declared.Core.{Core}
 use Rattle.post.specs.Promises.{CaseJ}
-use Rattle.switch.specs.Switch.{Deed, Event, Plain, event, press, receive, release, tick}
-use Rattle.switch.specs.Events.{paddleAt}
-use Rattle.switch.specs.Respond.{respond, startedFrom, wallSwitch}
+use Rattle.switch.specs.Switch.{Plain, event, receive}
+use Rattle.switch.specs.Respond.{respond, startAnswer, startedFrom}
 use Rattle.promises.specs.Numbers.{numberAt}
+use Rattle.promises.specs.Ticking.{Accepts, AtRest, Fades, IsHold, IsNothing, IsTap, blinks, coloursOf, dimmerIn, levelIn}
+unfoldable pub use Rattle.promises.specs.Ticking.{paddleAfter, pressOf, runOf, ticksOf, with48}
 
 -- "Network 1, unit 5, level step 80, Normal, dimming capable."
 pub record Bench (s : Switch Plain) : Type 0 where
@@ -63,34 +54,27 @@ packetC = 0x09 ∷ 0x00 ∷ 0x01 ∷ 0x05 ∷ 0x09 ∷ 0x03 ∷ 0x12 ∷ 0x34 �
 abbrev pub packetE : List ℕ
 packetE = 0x07 ∷ 0x00 ∷ 0x01 ∷ 0x05 ∷ 0x09 ∷ 0x30 ∷ 0xBB ∷ []
 
--- Events of one kind with a buffer of 48 bytes, and a press of so many ticks.
-abbrev pub with48 : Deed → Event
-with48 d = event 48 d
+-- (h) is of a capable switch at rest, at level 0; one such starts from the same image with 0 saved. Two packets for it, on link 3.
+pub record Dark (s : Switch Plain) : Type 0 where
+  pub rests : AtRest s
+  pub capable : optionsOf (dimmingIn (s .plain .registers)) .capable ≡ true
+  pub level : levelIn s ≡ off
 
-unfoldable pub ticksOf : ℕ → List Event
-ticksOf zero = []
-ticksOf (suc n) = with48 tick ∷ ticksOf n
+unfoldable pub darkImage : List ℕ
+darkImage = set benchImage 0xF9 0
 
-abbrev pub pressOf : ℕ → ℕ → List Event
-pressOf n contact = with48 (press contact) ∷ ticksOf n ++ with48 (release contact) ∷ []
+abbrev pub packetHalf : List ℕ
+packetHalf = 0x89 ∷ 0x00 ∷ 0x01 ∷ 0x03 ∷ 0x09 ∷ 0x22 ∷ 0x32 ∷ 0x04 ∷ 0x12 ∷ []
 
-abbrev pub runOf : Switch Plain → List Event → Switch Plain
-runOf s es = run (machine wallSwitch) s es
-
--- The paddle of a contact after some events.
-abbrev pub paddleAfter : Switch Plain → ℕ → List Event → Paddle
-paddleAfter s contact es = paddleAt contact (runOf s es .plain .paddles)
-
--- A switch of two paddles, the contact's own as a start leaves it.
-pub record AtRest (s : Switch Plain) (contact : ℕ) : Type 0 where
-  pub two : length (s .plain .paddles) ≡ 2
-  pub rests : paddleAt contact (s .plain .paddles) ≡ fresh
+abbrev pub packetFull : List ℕ
+packetFull = 0x89 ∷ 0x00 ∷ 0x01 ∷ 0x03 ∷ 0x09 ∷ 0x22 ∷ 0x64 ∷ 0x0F ∷ 0xD5 ∷ []
 
 pub record Cases : Type 0 where
   -- There is such a switch.
   pub bench : Bench (startedFrom benchImage)
   pub linked : found (startedFrom benchImage .plain .registers) 3 ≡ At 0
-  pub rests : (contact : ℕ) → AtRest (startedFrom benchImage) contact
+  -- Every start leaves a switch at rest, with nothing running.
+  pub rests : (image : List ℕ) → AtRest (startedFrom image) × (dimmerIn (startedFrom image) .motion ≡ Idle)
   -- "(a) 07 00 01 05 09 30 BA is answered by 08 00 01 09 05 86 28 3B."
   pub a : (s : Switch Plain) (room : ℕ) → 48 ≤ room → Bench s
       → (numberAt s (event room (receive packetA)) ≡ 0) × (respond s (event room (receive packetA)) .shown .sent ≡ replyA ∷ [])
@@ -106,20 +90,22 @@ pub record Cases : Type 0 where
       → numberAt s (event room (receive packetC)) ≡ 14
   -- "(e) last byte of (a) BB: 7." In every switch.
   pub e : (s : Switch Plain) (room : ℕ) → 48 ≤ room → numberAt s (event room (receive packetE)) ≡ 7
-  -- "(f) Presses of 59, 60, 179, 180 ticks: nothing, tap, tap, Hold." By any of the four contacts.
-  pub f-nothing : (s : Switch Plain) (contact : ℕ) → contact ≤ 3 → AtRest s contact → paddleAfter s contact (pressOf 59 contact) .taps ≡ 0
-  pub f-shortest : (s : Switch Plain) (contact : ℕ) → contact ≤ 3 → AtRest s contact → paddleAfter s contact (pressOf 60 contact) .taps ≡ 1
-  pub f-longest : (s : Switch Plain) (contact : ℕ) → contact ≤ 3 → AtRest s contact → paddleAfter s contact (pressOf 179 contact) .taps ≡ 1
-  pub f-hold : (s : Switch Plain) (contact : ℕ) → contact ≤ 3 → AtRest s contact
-      → gesture (paddleAfter s contact (with48 (press contact) ∷ ticksOf 179)) ≡ Hold
+  -- "(f) Presses of 59, 60, 179, 180 ticks: nothing, tap, tap, Hold." By any of the four contacts of a switch at rest, in every mode.
+  pub f-nothing : (s : Switch Plain) (contact : ℕ) → contact ≤ 3 → AtRest s → dimmerIn s .motion ≡ Idle → IsNothing 59 contact s
+  pub f-shortest : (s : Switch Plain) (contact : ℕ) → contact ≤ 3 → AtRest s → dimmerIn s .motion ≡ Idle → IsTap 60 contact s
+  pub f-longest : (s : Switch Plain) (contact : ℕ) → contact ≤ 3 → AtRest s → dimmerIn s .motion ≡ Idle → IsTap 179 contact s
+  pub f-hold : (s : Switch Plain) (contact : ℕ) → contact ≤ 3 → AtRest s → dimmerIn s .motion ≡ Idle → IsHold contact s
   -- "(g) A press at gap 179 joins the run."
-  pub g : (s : Switch Plain) (contact : ℕ) → contact ≤ 3 → AtRest s contact
+  pub g : (s : Switch Plain) (contact : ℕ) → contact ≤ 3 → AtRest s
       → paddleAfter s contact (pressOf 60 contact ++ (ticksOf 179 ++ pressOf 60 contact)) .taps ≡ 2
-  -- "(h) Rate 4, 0 to 50%: 600 ticks; rate 15, 0 to 100%: 864,000."
-  pub h : (all : List ℕ) (c : Core) → optionsOf (dimmingIn all) .capable ≡ true → c .dimmer .level ≡ off
-      → EndsAfter 600 (performed all (order.Goto 50 4) c .core .dimmer) (step 100)
-      × EndsAfter 864000 (performed all (order.Goto 100 15) c .core .dimmer) full
-  -- "(i) Version digit 2: red red green red." From every start, in every mode, whatever the options and the level are.
-  pub i : ((image : List ℕ) → startedFrom image .plain .core .lamp ≡ freshLamp) × ((mode : Mode) (options : ℕ) (level : Step) → CaseI mode options level)
+  -- "(h) Rate 4, 0 to 50%: 600 ticks; rate 15, 0 to 100%: 864,000." After a Goto, by whichever packet it comes: 6 and 4,320 ticks for each step.
+  pub h-half : (s : Switch Plain) (room : ℕ) (bytes : List ℕ) → 48 ≤ room → Dark s → Accepts s bytes (order.Goto 50 4)
+      → Fades s (event room (receive bytes)) 6 600 (step 100)
+  pub h-full : (s : Switch Plain) (room : ℕ) (bytes : List ℕ) → 48 ≤ room → Dark s → Accepts s bytes (order.Goto 100 15)
+      → Fades s (event room (receive bytes)) 4320 864000 full
+  pub h-there : Dark (startedFrom darkImage) × (Accepts (startedFrom darkImage) packetHalf (order.Goto 50 4) × Accepts (startedFrom darkImage) packetFull (order.Goto 100 15))
+  -- "(i) Version digit 2: red red green red." The answer of the start and those of the 479 ticks after it.
+  pub i : (image : List ℕ) → length image ≡ size → getD image 0x0B 0 % 16 ≡ 2
+      → startAnswer image .colour ∷ coloursOf (startedFrom image) (ticksOf 479) ≡ blinks (Red ∷ Red ∷ Green ∷ Red ∷ [])
   -- "(j) Command entry 22 FF FF sends two message bytes."
   pub j : CaseJ

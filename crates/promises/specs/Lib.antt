@@ -1,6 +1,7 @@
 pub mod Demand3
 pub mod Bounds
 pub mod Numbers
+pub mod Ticking
 pub mod Cases
 pub mod Rivals
 pub mod Sequence

@@ -58,7 +58,7 @@ no-packet : (mode : Mode) (all : List ℕ) (i : ℕ) (p : Percent) → announced
 unfolding announced enveloped
 no-packet mode all i p = rw (no-message mode all i p) (both (λ (l : List (List ℕ)). l ≡ []) (valid (transmitIn all i .link)) refl refl)
 
-turned-nothing : (i : ℕ) (m : Moment) → turned i Nothing m ≡ m
+pub turned-nothing : (i : ℕ) (m : Moment) → turned i Nothing m ≡ m
 unfolding turned after unwritten applied changeOf changeAt
 turned-nothing i m =
     rw (nothing-acts (m .registers) i (m .core), no-packet, append-nil (m .sent), nothing-followed (m .change))
@@ -69,7 +69,7 @@ both-hold true b h = (refl, h)
 both-hold false b h = absurd (true≢false (sym h))
 
 -- The turns of quiet paddles leave everything as it was.
-turns-quiet : (ps : List Paddle) (i : ℕ) (m : Moment) → quiet ps ≡ true → turns i ps m ≡ m
+pub turns-quiet : (ps : List Paddle) (i : ℕ) (m : Moment) → quiet ps ≡ true → turns i ps m ≡ m
 unfolding turns quiet
 turns-quiet [] i m h = refl
 turns-quiet (p ∷ ps) i m h =

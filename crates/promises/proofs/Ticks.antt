@@ -1,0 +1,243 @@
+-- Ticks of a switch: one in which no paddle completes a gesture, many of them in closed form, and one in which one paddle acts.
+use mathlib.Core.Bool.{true, false}
+use mathlib.Core.List.{List, [], _∷_, _++_, map}
+use mathlib.Core.Path.{_≡_, refl, sym, ap, ap₂, _∙_, subst}
+use Prim.Native.Nat.{ℕ, zero, suc, _+_, _-_, _%_, _<_, _≤_}
+use native.Mathlib.Omega.{arith}
+use lib.ListN.{getD, length, set}
+use lib.Seq.{getD-set-other}
+use Rattle.words.proofs.Laws.{both}
+use Rattle.timers.specs.Timers.{beats, turned as turnedAround, turnedBy}
+use Rattle.timers.proofs.Laws.{turned-more, turned-none}
+use Rattle.units.specs.Units.{percentOf}
+use Rattle.vault.specs.Job.{Switch, became, change, changed, nothing, settled, switch}
+use Rattle.vault.specs.Machine.{Throughout, run, transcript}
+use Rattle.vault.specs.Product
+use Rattle.vault.specs.Product.{machine}
+use Rattle.vault.specs.declared.Password.{Password}
+use Rattle.dimmer.specs.Dimmer.{dimmer, ticked, tickedBy, tickedByFrom, tickedFrom}
+use Rattle.dimmer.specs.declared.Dimmer.{Dimmer}
+use Rattle.dimmer.specs.declared.Motion.{Motion}
+use Rattle.dimmer.specs.declared.Motion.the-variants.{Idle}
+use Rattle.dimmer.proofs.Laws.{ticked-more, ticked-none}
+use Rattle.lamp.specs.Lamp.{next as lampTicked}
+use Rattle.lamp.specs.Promises.{skip as lampAfter}
+use Rattle.lamp.proofs.Laws.{skip-more, skip-none}
+use Rattle.paddle.specs.Paddle.{down, fresh, gesture, next, none}
+use Rattle.paddle.specs.Promises.{due, raised, ticks, wait, waitFor}
+use Rattle.paddle.specs.declared.Gesture.the-variants.{Nothing}
+use Rattle.paddle.specs.declared.Paddle.{Paddle}
+use Rattle.paddle.proofs.Laws as paddle
+use Rattle.registers.specs.Places.{firstPlace, savedPlace, secondPlace}
+use Rattle.registers.specs.Write.{applied, changeAt, changeOf, stored}
+use Rattle.registers.specs.declared.write.Write.{Write}
+use Rattle.registers.specs.declared.write.Write.the-variants.{Save, Nothing as Unwritten}
+use Rattle.acts.specs.Core.{aged, core, saveTicks, saved, toSave}
+use Rattle.acts.specs.declared.Core.{Core}
+use Rattle.switch.specs.Switch.{Event, Plain, Shown, answerOf, answerWith, event, plain, tick}
+use Rattle.switch.specs.Paddles.{after, followed, over}
+use Rattle.switch.specs.Events.{begun, finished, paddleAt, paddleOf, signalledBy, ticking}
+use Rattle.switch.specs.Code.{quiet}
+use Rattle.switch.specs.Respond.{respond, wallSwitch}
+use Rattle.switch.proofs.Quick.{plainly, turns-quiet}
+use Rattle.promises.specs.Ticking.{AtRest, LeftToItself, RestIsSilent, Shows, Silent, Ticking, dimmerIn, nextTick, nthTick, runOf, ticksOf, with48}
+use Rattle.promises.proofs.Jobs.{tick-job}
+
+-- ---- runs of ticks
+
+pub next-at : (l : List Paddle) (i : ℕ) → i < length l → getD (map next l) i fresh ≡ next (getD l i fresh)
+next-at [] i h = absurd (omega arith)
+next-at (p ∷ l) zero h = refl
+next-at (p ∷ l) (suc i) h = next-at l i (omega arith)
+
+pub ticks-shift : (n : ℕ) (p : Paddle) → ticks n (next p) ≡ ticks (suc n) p
+unfolding ticks
+ticks-shift zero p = refl
+ticks-shift (suc n) p = ap next (ticks-shift n p)
+
+pub run-joined : (s : Switch Plain) (es fs : List Event) → runOf s (es ++ fs) ≡ runOf (runOf s es) fs
+unfolding run
+run-joined s [] fs = refl
+run-joined s (e ∷ es) fs = run-joined (respond s e .next) es fs
+
+-- One tick more at the end.
+pub run-more : (n : ℕ) (s : Switch Plain) → runOf s (ticksOf (suc n)) ≡ respond (runOf s (ticksOf n)) (with48 tick) .next
+unfolding run ticksOf
+run-more zero s = refl
+run-more (suc n) s = run-more n (respond s (with48 tick) .next)
+
+-- What holds at each of n ticks holds throughout them, and what holds throughout two runs holds throughout both.
+module _ (C : Switch Plain → Event → Type 0) where
+  pub throughout-ticks : (n : ℕ) (s : Switch Plain) → ((k : ℕ) → k < n → C (runOf s (ticksOf k)) (with48 tick)) → Throughout (machine wallSwitch) C s (ticksOf n)
+  unfolding run ticksOf
+  throughout-ticks zero s each = tt
+  throughout-ticks (suc n) s each = (each 0 (omega arith), throughout-ticks n (respond s (with48 tick) .next) (λ k h. each (suc k) (omega arith)))
+
+  pub throughout-joined : (s : Switch Plain) (es fs : List Event) → Throughout (machine wallSwitch) C s es → Throughout (machine wallSwitch) C (runOf s es) fs
+      → Throughout (machine wallSwitch) C s (es ++ fs)
+  unfolding run
+  throughout-joined s [] fs a b = b
+  throughout-joined s (e ∷ es) fs a b = (a .0, throughout-joined (respond s e .next) es fs (a .1) b)
+
+-- What n ticks show, one by one.
+unfoldable pub tabulated : {A : Type 0} → (ℕ → A) → ℕ → List A
+tabulated f zero = []
+tabulated f (suc n) = f 0 ∷ tabulated (λ k. f (suc k)) n
+
+pub ticks-shown : {A : Type 0} (see : Shown → A) (f : ℕ → A) (n : ℕ) (s : Switch Plain)
+    → ((k : ℕ) → k < n → see (nextTick (runOf s (ticksOf k))) ≡ f k)
+    → map see (transcript (machine wallSwitch) s (ticksOf n)) ≡ tabulated f n
+unfolding run ticksOf transcript tabulated
+ticks-shown see f zero s each = refl
+ticks-shown see f (suc n) s each =
+    ap₂ (λ x l. x ∷ l) (each 0 (omega arith)) (ticks-shown see (λ k. f (suc k)) n (respond s (with48 tick) .next) (λ k h. each (suc k) (omega arith)))
+
+-- ---- one tick in which no paddle completes a gesture
+
+-- All but the password after it: timers, dimmer and paddles run, and where the metronome beats the percent goes to 0xF9.
+abbrev pub tickedCore : Core → Core
+tickedCore c = core (c .mode) (ticked (c .dimmer)) (lampTicked (c .lamp)) (turnedAround saveTicks (c .save))
+
+abbrev pub tickedPlain : Plain → Plain
+tickedPlain p = plain (applied (toSave (aged (p .core))) [] (p .registers)) (tickedCore (p .core)) (map next (p .paddles))
+
+-- Saving the level leaves the password alone.
+pub save-keeps : (c : Core) → changeOf (toSave c) [] ≡ nothing
+unfolding toSave changeOf changeAt
+save-keeps c = both (λ (w : Write). change (changeAt w [] firstPlace) (changeAt w [] secondPlace) ≡ nothing) (beats (c .save)) {x = Save (percentOf (c .dimmer .level))} {y = Unwritten} refl refl
+
+pub quiet-tick : (s : Switch Plain) (room : ℕ) → 48 ≤ room → quiet (s .plain .paddles) ≡ true
+    → respond s (event room tick) ≡ plainly (tickedPlain (s .plain)) (s .password)
+unfolding Product.respond settled ticking after followed over finished signalledBy saved aged changed became
+quiet-tick s room enough still =
+    rw (tick-job (s .plain) room enough, turns-quiet (s .plain .paddles) 0 (begun (s .plain) (aged (s .plain .core))) still, save-keeps (aged (s .plain .core)))
+
+-- What such an event shows.
+pub plainly-shows : (s : Switch Plain) (e : Event) (p : Plain) (w : Password) → respond s e ≡ plainly p w → Shows (p .core .dimmer .level) [] (respond s e .shown)
+unfolding answerOf answerWith
+plainly-shows s e p w same = record {
+  number = ap (λ a. a .shown .answer .number) same;
+  level = ap (λ a. a .shown .answer .level) same;
+  counted = ap (λ a. a .shown .answer .sent) same;
+  sent = ap (λ a. a .shown .sent) same;
+}
+
+-- ---- many of them
+
+-- After n ticks: the counters in closed form, the registers tick by tick.
+abbrev pub coreAfter : ℕ → Core → Core
+coreAfter n c = core (c .mode) (tickedBy n (c .dimmer)) (lampAfter n (c .lamp)) (turnedBy n saveTicks (c .save))
+
+unfoldable pub registersAfter : ℕ → Plain → List ℕ
+registersAfter zero p = p .registers
+registersAfter (suc n) p = applied (toSave (aged (coreAfter n (p .core)))) [] (registersAfter n p)
+
+abbrev pub plainAfter : ℕ → Plain → Plain
+plainAfter n p = plain (registersAfter n p) (coreAfter n (p .core)) (map (ticks n) (p .paddles))
+
+no-ticks : (ps : List Paddle) → map (ticks 0) ps ≡ ps
+unfolding ticks
+no-ticks [] = refl
+no-ticks (p ∷ ps) = ap (λ (l : List Paddle). p ∷ l) (no-ticks ps)
+
+one-more : (n : ℕ) (ps : List Paddle) → map next (map (ticks n) ps) ≡ map (ticks (suc n)) ps
+unfolding ticks
+one-more n [] = refl
+one-more n (p ∷ ps) = ap (λ (l : List Paddle). next (ticks n p) ∷ l) (one-more n ps)
+
+after-none : (p : Plain) → plainAfter 0 p ≡ p
+unfolding registersAfter
+after-none p =
+    let c = p .core in
+    λ i. plain (p .registers) (core (c .mode) (ticked-none (c .dimmer) i) (skip-none (c .lamp) i) (turned-none saveTicks (c .save) i)) (no-ticks (p .paddles) i)
+
+after-more : (n : ℕ) (p : Plain) → tickedPlain (plainAfter n p) ≡ plainAfter (suc n) p
+unfolding registersAfter
+after-more n p =
+    let c = p .core in
+    λ i. plain (registersAfter (suc n) p)
+    (core (c .mode) (ticked-more n (c .dimmer) i) (skip-more n (c .lamp) i) (turned-more n saveTicks (c .save) i)) (one-more n (p .paddles) i)
+
+-- No paddle of the list completes a gesture in the next n ticks.
+abbrev pub Quiet : ℕ → List Paddle → Type 0
+Quiet n ps = (k : ℕ) → k < n → quiet (map (ticks k) ps) ≡ true
+
+pub after-ticks : (n : ℕ) (s : Switch Plain) → Quiet n (s .plain .paddles) → runOf s (ticksOf n) ≡ switch (plainAfter n (s .plain)) (s .password)
+unfolding run ticksOf
+after-ticks zero s still = ap (λ (p : Plain). switch p (s .password)) (sym (after-none (s .plain)))
+after-ticks (suc n) s still =
+    let later : Switch Plain = switch (plainAfter n (s .plain)) (s .password) in
+    run-more n s
+    ∙ ap (λ (t : Switch Plain). respond t (with48 tick) .next) (after-ticks n s (λ k h. still k (omega arith)))
+    ∙ ap (λ a. a .next) (quiet-tick later 48 (omega arith) (still n (omega arith)))
+    ∙ ap (λ (p : Plain). switch p (s .password)) (after-more n (s .plain))
+
+-- The tick after n ticks.
+pub tick-after : (n : ℕ) (s : Switch Plain) → Quiet (suc n) (s .plain .paddles)
+    → respond (runOf s (ticksOf n)) (with48 tick) ≡ plainly (plainAfter (suc n) (s .plain)) (s .password)
+tick-after n s still =
+    ap (λ (t : Switch Plain). respond t (with48 tick)) (after-ticks n s (λ k h. still k (omega arith)))
+    ∙ quiet-tick (switch (plainAfter n (s .plain)) (s .password)) 48 (omega arith) (still n (omega arith))
+    ∙ ap (λ (p : Plain). plainly p (s .password)) (after-more n (s .plain))
+
+-- The registers differ from those before in the saved level alone.
+abbrev pub Agrees : List ℕ → List ℕ → Type 0
+Agrees all now = (place : ℕ) → (place ≡ savedPlace → ⊥) → getD now place 0 ≡ getD all place 0
+
+pub save-agrees : (c : Core) (all : List ℕ) → Agrees all (applied (toSave c) [] all)
+unfolding toSave applied stored
+save-agrees c all place other =
+    both (λ (w : Write). getD (applied w [] all) place 0 ≡ getD all place 0) (beats (c .save)) {x = Save (percentOf (c .dimmer .level))} {y = Unwritten}
+    (getD-set-other all savedPlace place _ 0 other) refl
+
+pub registers-agree : (n : ℕ) (p : Plain) → Agrees (p .registers) (registersAfter n p)
+unfolding registersAfter
+registers-agree zero p place other = refl
+registers-agree (suc n) p place other = save-agrees (aged (coreAfter n (p .core))) (registersAfter n p) place other ∙ registers-agree n p place other
+
+-- ---- a switch that is left to itself
+
+quiet-each : (k : ℕ) (ps : List Paddle) → ((i : ℕ) → i < length ps → gesture (ticks k (getD ps i fresh)) ≡ Nothing) → quiet (map (ticks k) ps) ≡ true
+unfolding quiet none
+quiet-each k [] each = refl
+quiet-each k (p ∷ ps) each = rw (each 0 (omega arith)) (quiet-each k ps (λ i h. each (suc i) (omega arith)))
+
+pub silent-quiet : (n : ℕ) (s : Switch Plain) → length (s .plain .paddles) ≡ 2 → Silent n s → Quiet n (s .plain .paddles)
+unfolding paddleOf
+silent-quiet n s two silent k h = quiet-each k (s .plain .paddles) (λ i under. at i (omega arith))
+  where
+    at : (i : ℕ) → i < 2 → gesture (ticks k (getD (s .plain .paddles) i fresh)) ≡ Nothing
+    at i under = let e : i % 2 ≡ i = omega arith in ap (λ (j : ℕ). gesture (ticks k (getD (s .plain .paddles) j fresh))) (sym e) ∙ silent i k h
+
+-- The tick after n ticks is the one of number n + 1.
+pub nth : (C : Shown → Type 0) (n : ℕ) (s : Switch Plain) → C (nextTick (runOf s (ticksOf n))) → C (nthTick s (suc n))
+nth C n s shown = let e : suc n - 1 ≡ n = omega arith in subst (λ (k : ℕ). C (nextTick (runOf s (ticksOf k)))) (sym e) shown
+
+pub left-to-itself : LeftToItself
+left-to-itself s zero two silent some = absurd (omega arith)
+left-to-itself s (suc n) two silent some =
+    nth (Shows (tickedBy (suc n) (dimmerIn s) .level) []) n s
+    (plainly-shows (runOf s (ticksOf n)) (with48 tick) (plainAfter (suc n) (s .plain)) (s .password) (tick-after n s (silent-quiet (suc n) s two silent)))
+
+-- A paddle that is up with no tap counted.
+pub untapped : (k hold gap : ℕ) → gesture (ticks k (raised hold gap 0)) ≡ Nothing
+unfolding wait waitFor down due
+untapped k hold gap = paddle.quiet k (raised hold gap 0) refl
+
+pub up-untapped : (p : Paddle) → down p ≡ false → p .taps ≡ 0 → p ≡ raised (p .hold) (p .gap) 0
+up-untapped p up none = paddle.up-raised p up ∙ ap (λ (taps : ℕ). raised (p .hold) (p .gap) taps) none
+
+-- Paddles that are left as they were are still at rest.
+pub rest-as : (s t : Switch Plain) → t .plain .paddles ≡ s .plain .paddles → AtRest s → AtRest t
+rest-as s t same rest = record {
+  two = ap length same ∙ rest .two;
+  up = λ contact. ap (λ (ps : List Paddle). down (paddleAt contact ps)) same ∙ rest .up contact;
+  untapped = λ contact. ap (λ (ps : List Paddle). paddleAt contact ps .taps) same ∙ rest .untapped contact;
+}
+
+pub rest-is-silent : RestIsSilent
+rest-is-silent s n rest contact k h =
+    ap (λ (p : Paddle). gesture (ticks k p)) (up-untapped _ (rest .up contact) (rest .untapped contact)) ∙ untapped k _ _
+
+pub ticking-promise : Ticking
+ticking-promise = record { left = left-to-itself; rest = rest-is-silent }

@@ -1,0 +1,167 @@
+-- What is seen of a switch over presses and ticks: runs of events, the ticks of a switch that is left to itself, and what a gesture shows.
+use mathlib.Core.Bool.{false}
+use mathlib.Core.List.{List, [], _∷_, _++_, map}
+use mathlib.Core.Path.{_≡_}
+use Prim.Native.Nat.{ℕ, zero, suc, _-_, _/_, _≤_, _<_}
+use lib.ListN.{length}
+use Rattle.units.specs.Units.{off, percentOf, step}
+use Rattle.units.specs.declared.Step.{Step}
+use Rattle.vault.specs.Job.{Switch}
+use Rattle.vault.specs.Machine.{Throughout, run, transcript}
+use Rattle.vault.specs.Product.{machine}
+use Rattle.dimmer.specs.Dimmer.{tickedBy}
+use Rattle.dimmer.specs.declared.Dimmer.{Dimmer}
+use Rattle.lamp.specs.declared.Colour.{Colour}
+use Rattle.lamp.specs.declared.Colour.the-variants.{Black}
+use Rattle.packet.specs.Promises.{Sound}
+use Rattle.packet.specs.Reading.{messageOf}
+use Rattle.packet.specs.declared.Header.{Header}
+use Rattle.paddle.specs.Paddle.{down, gesture}
+use Rattle.paddle.specs.Promises.{ticks}
+use Rattle.paddle.specs.declared.Gesture.{Gesture}
+use Rattle.paddle.specs.declared.Gesture.the-variants.{Nothing, Taps, Hold, Release}
+use Rattle.paddle.specs.declared.Paddle.{Paddle}
+use Rattle.judge.specs.Promises.{Accepted}
+use Rattle.judge.specs.declared.Order.{Order}
+use Rattle.acts.specs.Gestures.{acted}
+use Rattle.post.specs.Post.{announced}
+use Rattle.switch.specs.Switch.{Deed, Event, Plain, Shown, event, press, release, tally, tick}
+use Rattle.switch.specs.Events.{paddleAt, paddleOf}
+use Rattle.switch.specs.Respond.{respond, wallSwitch}
+
+-- Events of one kind with a buffer of 48 bytes, and a press of so many ticks.
+abbrev pub with48 : Deed → Event
+with48 d = event 48 d
+
+unfoldable pub ticksOf : ℕ → List Event
+ticksOf zero = []
+ticksOf (suc n) = with48 tick ∷ ticksOf n
+
+abbrev pub pressOf : ℕ → ℕ → List Event
+pressOf n contact = with48 (press contact) ∷ ticksOf n ++ with48 (release contact) ∷ []
+
+abbrev pub runOf : Switch Plain → List Event → Switch Plain
+runOf s es = run (machine wallSwitch) s es
+
+-- The paddle of a contact after some events.
+abbrev pub paddleAfter : Switch Plain → ℕ → List Event → Paddle
+paddleAfter s contact es = paddleAt contact (runOf s es .plain .paddles)
+
+-- The level, and the dimmer that holds it.
+abbrev pub dimmerIn : Switch Plain → Dimmer
+dimmerIn s = s .plain .core .dimmer
+
+abbrev pub levelIn : Switch Plain → Step
+levelIn s = dimmerIn s .level
+
+-- ---- what is seen
+
+-- An event is answered 0 and shows this level and these packets.
+pub record Shows (to : Step) (packets : List (List ℕ)) (x : Shown) : Type 0 where
+  pub number : x .answer .number ≡ 0
+  pub level : x .answer .level ≡ to
+  pub counted : x .answer .sent ≡ tally packets
+  pub sent : x .sent ≡ packets
+
+-- Nothing is seen of some events: each is answered 0, shows the level that stood before them, and sends nothing.
+abbrev pub Unseen : Switch Plain → List Event → Type 0
+Unseen s es = Throughout (machine wallSwitch) (λ t e. Shows (levelIn s) [] (respond t e .shown)) s es
+
+-- What the next tick shows, and what the nth tick from now shows, n counted from 1.
+abbrev pub nextTick : Switch Plain → Shown
+nextTick s = respond s (with48 tick) .shown
+
+abbrev pub nthTick : Switch Plain → ℕ → Shown
+nthTick s n = nextTick (runOf s (ticksOf (n - 1)))
+
+-- ---- a switch that is left to itself
+
+-- No paddle completes a gesture in the next n ticks.
+abbrev pub Silent : ℕ → Switch Plain → Type 0
+Silent n s = (contact k : ℕ) → k < n → gesture (ticks k (paddleAt contact (s .plain .paddles))) ≡ Nothing
+
+-- Its nth tick is answered 0 and sends nothing, and the level is the dimmer's closed form after n ticks, whatever fades or blinks.
+abbrev pub LeftToItself : Type 0
+LeftToItself =
+    (s : Switch Plain) (n : ℕ) → length (s .plain .paddles) ≡ 2 → Silent n s → 1 ≤ n
+    → Shows (tickedBy n (dimmerIn s) .level) [] (nthTick s n)
+
+-- A switch with two paddles, both up and with no tap counted, as every start leaves them.
+pub record AtRest (s : Switch Plain) : Type 0 where
+  pub two : length (s .plain .paddles) ≡ 2
+  pub up : (contact : ℕ) → down (paddleAt contact (s .plain .paddles)) ≡ false
+  pub untapped : (contact : ℕ) → paddleAt contact (s .plain .paddles) .taps ≡ 0
+
+-- It is silent for good.
+abbrev pub RestIsSilent : Type 0
+RestIsSilent = (s : Switch Plain) (n : ℕ) → AtRest s → Silent n s
+
+-- ---- what a gesture of a contact's paddle shows
+
+-- The dimmer after its act, and the packets that it sends at a level.
+abbrev pub dimmerBy : Gesture → ℕ → Switch Plain → Dimmer
+dimmerBy g contact s = acted (s .plain .registers) (paddleOf contact) g (s .plain .core) .core .dimmer
+
+abbrev pub packetsBy : Gesture → ℕ → Switch Plain → Step → List (List ℕ)
+packetsBy g contact s level = announced (s .plain .registers) (s .plain .core .mode) (paddleOf contact) g (percentOf level)
+
+-- It acts, and sends at the level after the act.
+abbrev pub ShowsGesture : Gesture → ℕ → Switch Plain → Shown → Type 0
+ShowsGesture g contact s x = Shows (dimmerBy g contact s .level) (packetsBy g contact s (dimmerBy g contact s .level)) x
+
+-- A press of n ticks is nothing: nothing is seen of it, nor of any number of ticks after it.
+abbrev pub IsNothing : ℕ → ℕ → Switch Plain → Type 0
+IsNothing n contact s = (later : ℕ) → Unseen s (pressOf n contact ++ ticksOf later)
+
+-- A press of n ticks is a tap: nothing is seen of it, nor of the 179 ticks after it; the 180th shows what one tap does and sends; from then
+-- on the switch is left to itself.
+pub record IsTap (n contact : ℕ) (s : Switch Plain) : Type 0 where
+  pub before : Unseen s (pressOf n contact ++ ticksOf 179)
+  pub acts : ShowsGesture (Taps 1) contact s (nextTick (runOf s (pressOf n contact ++ ticksOf 179)))
+  pub after : (m : ℕ) → 1 ≤ m → Shows (tickedBy m (dimmerBy (Taps 1) contact s) .level) [] (nthTick (runOf s (pressOf n contact ++ ticksOf 180)) m)
+
+-- A press of 180 ticks is Hold: nothing is seen of its first 179 ticks; the 180th shows what Hold does and sends; the release stops it at
+-- the level that it then has, and sends as Release; from then on that level stands.
+pub record IsHold (contact : ℕ) (s : Switch Plain) : Type 0 where
+  pub before : Unseen s (with48 (press contact) ∷ ticksOf 179)
+  pub acts : ShowsGesture Hold contact s (nextTick (runOf s (with48 (press contact) ∷ ticksOf 179)))
+  pub release :
+      Shows (dimmerBy Hold contact s .level) (packetsBy Release contact s (dimmerBy Hold contact s .level))
+      (respond (runOf s (with48 (press contact) ∷ ticksOf 180)) (with48 (release contact)) .shown)
+  pub after : (m : ℕ) → 1 ≤ m → Shows (dimmerBy Hold contact s .level) [] (nthTick (runOf s (pressOf 180 contact)) m)
+
+-- ---- a fade from dark
+
+-- An event begins a fade from dark to a target, which shows one step more for each so many ticks, is at its target in exactly the last of
+-- these ticks, and stays there.
+pub record Fades (s : Switch Plain) (e : Event) (each total : ℕ) (target : Step) : Type 0 where
+  pub begins : Shows off [] (respond s e .shown)
+  pub runs : (n : ℕ) → 1 ≤ n → n < total → Shows (step (n / each)) [] (nthTick (respond s e .next) n)
+  pub rests : (n : ℕ) → total ≤ n → Shows target [] (nthTick (respond s e .next) n)
+
+-- A packet that the switch accepts as this order.
+pub record Accepts (s : Switch Plain) (bytes : List ℕ) (o : Order) : Type 0 where
+  pub header : Header
+  pub sound : Sound bytes header
+  pub accepted : Accepted o (s .plain .registers) (s .plain .core .mode) header (messageOf bytes)
+
+-- ---- colours
+
+-- The colours that the answers of some events show, in order.
+abbrev pub coloursOf : Switch Plain → List Event → List Colour
+coloursOf s es = map (λ (x : Shown). x .answer .colour) (transcript (machine wallSwitch) s es)
+
+-- A colour for so many answers.
+unfoldable pub repeated : ℕ → Colour → List Colour
+repeated zero c = []
+repeated (suc n) c = c ∷ repeated n c
+
+-- Each colour for 60 answers, and black for 60 after it.
+unfoldable pub blinks : List Colour → List Colour
+blinks [] = []
+blinks (c ∷ cs) = repeated 60 c ++ (repeated 60 Black ++ blinks cs)
+
+-- All that is promised of a switch that is left to itself.
+pub record Ticking : Type 0 where
+  pub left : LeftToItself
+  pub rest : RestIsSilent
