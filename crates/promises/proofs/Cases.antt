@@ -1,18 +1,17 @@
 -- The table of cases (a) to (j), shown.
 use mathlib.Core.Bool.{true, false, _||_}
-use mathlib.Core.List.{List, [], _∷_, _++_, map}
+use mathlib.Core.List.{List, [], _∷_}
 use mathlib.Core.Logic.{inl}
 use mathlib.Core.Path.{_≡_, refl, sym, ap, ap₂, _∙_, subst}
 use Prim.Native.Nat.{ℕ, zero, suc, _+_, _-_, _*_, _/_, _%_, _<_, _≤_}
 use native.Mathlib.Omega.{arith}
-use borrow.Author.Tests.{eq-eqb, le-ltb, lt-ltb}
-use lib.ListN.{drop, getD, length, length-map, length-set, set}
+use borrow.Author.Tests.{eq-eqb, le-ltb, lt-ltb, ne-eqb}
+use lib.ListN.{drop, getD, length, length-set, set}
 use lib.Seq.{getD-set-other, getD-set-same}
 use Rattle.words.proofs.Laws.{three-ways}
-use Rattle.units.specs.Units.{full, off, percent, percentOf, step, stepOf}
+use Rattle.units.specs.Units.{off, percent, percentOf, step, stepOf}
 use Rattle.units.specs.declared.Step.{Step}
 use Rattle.vault.specs.Job.{Switch, answered, settled}
-use Rattle.vault.specs.Machine.{run}
 use Rattle.vault.specs.Product
 use Rattle.vault.specs.Vault.{password}
 use Rattle.vault.specs.declared.Mode.the-variants.{Setup}
@@ -23,17 +22,14 @@ use Rattle.dimmer.specs.declared.Motion.the-variants.{Idle}
 use Rattle.dimmer.proofs.Laws.{fade-ends, fade-runs}
 use Rattle.lamp.specs.Lamp.{bit, bitColour, colour, fresh as freshLamp}
 use Rattle.lamp.specs.Promises.{blinkAfter, versionAfter}
-use Rattle.lamp.specs.declared.Colour.the-variants.{Green, Red}
 use Rattle.lamp.specs.declared.Lamp.{Lamp}
 use Rattle.lamp.proofs.Laws.{skip-none, version-shows}
 use Rattle.packet.specs.Layout.{firstByte, headerIn, reservedIn, secondByte, total, wholeIn}
 use Rattle.packet.specs.Reading.{messageOf, readOf}
 use Rattle.packet.specs.declared.Frame.the-variants as frame
 use Rattle.packet.proofs.Laws as packet
-use Rattle.paddle.specs.Paddle.{counted as tapCounted, down, fresh, next, pressed, released}
-use Rattle.paddle.specs.Promises.{pressFor, raised, ticks}
+use Rattle.paddle.specs.Paddle.{down, fresh, next, pressed}
 use Rattle.paddle.specs.declared.Paddle.{Paddle}
-use Rattle.paddle.proofs.Laws.{a-tap, joins}
 use Rattle.registers.specs.Places.{counterPlace, digitIn, dimmingIn, lightIn, networkIn, size}
 use Rattle.registers.specs.Registers.{apart, found, seek, valid}
 use Rattle.registers.specs.Write.{applied, counted, stored}
@@ -47,16 +43,16 @@ use Rattle.acts.specs.Orders.{performed}
 use Rattle.post.specs.Post.{enveloped, header, replied, replyMessage}
 use Rattle.post.specs.declared.Reply.the-variants as reply
 use Rattle.post.proofs.Sending.{case-a, case-j}
-use Rattle.switch.specs.Switch.{Event, Plain, Shown, answerOf, answerWith, event, freshPaddles, press, receive, release, tick}
-use Rattle.switch.specs.Events.{Asked, answering, finished, job, kindOf, obeyed, obeying, opening, ordering, paddleAt, paddleOf, pressedAt, pressing, refused, releasedAt, releasing, replyTo, signalled, ticking, woken}
+use Rattle.switch.specs.Switch.{Event, Plain, Shown, answerOf, answerWith, event, freshPaddles, press, receive}
+use Rattle.switch.specs.Events.{Asked, answering, finished, job, kindOf, obeyed, obeying, opening, ordering, paddleAt, paddleOf, pressedAt, pressing, refused, replyTo, signalled, woken}
 use Rattle.switch.specs.Respond.{respond, startAnswer, startedFrom, wallSwitch}
 use Rattle.promises.specs.Cases.{Bench, Cases, Dark, benchImage, darkImage, packetA, packetB, packetC, packetE, packetFull, packetHalf, replyA, zeros}
 use Rattle.promises.specs.Numbers.{numberAt, refused as row-refused, wrong-password, wrong-sum}
-use Rattle.promises.specs.Ticking.{Accepts, AtRest, Fades, Shows, blinks, coloursOf, dimmerIn, nextTick, nthTick, paddleAfter, pressOf, repeated, runOf, ticksOf, with48}
-use Rattle.promises.proofs.Jobs.{press-job, receive-job, release-job, tick-job}
+use Rattle.promises.specs.Ticking.{Accepts, AtRest, Fades, Shows, blinks, coloursOf, dimmerIn, modeIn, nextTick, nthTick, repeated, runOf, ticksOf, with48}
+use Rattle.promises.proofs.Jobs.{press-job, receive-job}
 use Rattle.promises.proofs.Numbers.{numbers}
-use Rattle.promises.proofs.Presses.{is-hold, is-nothing, is-tap}
-use Rattle.promises.proofs.Ticks.{left-to-itself, plainAfter, registers-agree, rest-as, rest-is-silent, silent-quiet, tabulated, tick-after, ticks-shown, up-untapped}
+use Rattle.promises.proofs.Presses.{is-double, is-hold, is-nothing, is-tap}
+use Rattle.promises.proofs.Ticks.{left-to-itself, plainAfter, registers-agree, rest-as, rest-is-silent, shows-as, silent-quiet, tabulated, tick-after, ticks-shown}
 pub use Rattle.promises.proofs.Ticks.{next-at, run-joined, ticks-shift}
 
 -- How the packets are read.
@@ -176,65 +172,16 @@ e-number : (s : Switch Plain) (room : ℕ) → 48 ≤ room → numberAt s (event
 e-number s room enough =
     numbers .exactly s (event room (receive packetE)) 7 .1 (row-refused 7 enough (wrong-sum (packet.exactly frame.Sum packetE .0 (reads .e))))
 
--- ---- the paddles of the switch run as the recogniser does
-
--- A switch of two paddles, with the contact's own as given.
+-- A press moves its paddle as the recogniser says, of a switch of two paddles.
 abbrev Has : Switch Plain → ℕ → Paddle → Type 0
 Has s contact q = (length (s .plain .paddles) ≡ 2) × (paddleAt contact (s .plain .paddles) ≡ q)
 
-module _ (contact : ℕ) (known : contact ≤ 3) where
-  -- An edge or a tick moves that paddle as the recogniser says.
-  pub has-pressed : (s : Switch Plain) (q : Paddle) → Has s contact q → Has (respond s (with48 (press contact)) .next) contact (pressed (kindOf contact) q)
-  unfolding Product.respond settled pressing finished pressedAt paddleOf
-  has-pressed s q h =
-      let same = ap (λ (j : Asked). settled (s .password) j .next .plain .paddles) (press-job (s .plain) 48 contact (omega arith) known) in
-      rw same (length-set (s .plain .paddles) _ _ ∙ h .0, getD-set-same (s .plain .paddles) (contact % 2) _ fresh (omega (arith, h .0)) ∙ ap (pressed (kindOf contact)) (h .1))
-
-  has-released : (s : Switch Plain) (q : Paddle) → Has s contact q → Has (respond s (with48 (release contact)) .next) contact (released (kindOf contact) q)
-  unfolding Product.respond settled releasing finished releasedAt paddleOf
-  has-released s q h =
-      let same = ap (λ (j : Asked). settled (s .password) j .next .plain .paddles) (release-job (s .plain) 48 contact (omega arith) known) in
-      rw same (length-set (s .plain .paddles) _ _ ∙ h .0, getD-set-same (s .plain .paddles) (contact % 2) _ fresh (omega (arith, h .0)) ∙ ap (released (kindOf contact)) (h .1))
-
-  has-ticked : (s : Switch Plain) (q : Paddle) → Has s contact q → Has (respond s (with48 tick) .next) contact (next q)
-  unfolding Product.respond settled ticking finished paddleOf
-  has-ticked s q h =
-      let same = ap (λ (j : Asked). settled (s .password) j .next .plain .paddles) (tick-job (s .plain) 48 (omega arith)) in
-      rw same (length-map (s .plain .paddles) next ∙ h .0, next-at (s .plain .paddles) (contact % 2) (omega (arith, h .0)) ∙ ap next (h .1))
-
-  has-after : (n : ℕ) (s : Switch Plain) (q : Paddle) → Has s contact q → Has (runOf s (ticksOf n)) contact (ticks n q)
-  unfolding run ticksOf ticks
-  has-after zero s q h = h
-  has-after (suc n) s q h =
-      let on = has-after n (respond s (with48 tick) .next) (next q) (has-ticked s q h) in
-      (on .0, on .1 ∙ ticks-shift n q)
-
-  -- A press of n ticks.
-  has-press : (n : ℕ) (s : Switch Plain) (q : Paddle) → Has s contact q → Has (runOf s (pressOf n contact)) contact (pressFor n (kindOf contact) q)
-  unfolding run
-  has-press n s q h =
-      let down = respond s (with48 (press contact)) .next in
-      let on = has-after n down (pressed (kindOf contact) q) (has-pressed s q h) in
-      rw (run-joined down (ticksOf n) (with48 (release contact) ∷ [])) (has-released (runOf down (ticksOf n)) (ticks n (pressed (kindOf contact) q)) on)
-
-  joins-after : (s : Switch Plain) → AtRest s → paddleAfter s contact (pressOf 60 contact ++ (ticksOf 179 ++ pressOf 60 contact)) .taps ≡ 2
-  unfolding tapCounted
-  joins-after s rest =
-      let k = kindOf contact in
-      let p = paddleAt contact (s .plain .paddles) in
-      let rested = up-untapped p (rest .up contact) (rest .untapped contact) in
-      let own = raised (p .hold) (p .gap) 0 in
-      let tapped = runOf s (pressOf 60 contact) in
-      let one = pressFor 60 k own in
-      let first = has-press 60 s own (rest .two, rested) in
-      let later = runOf tapped (ticksOf 179) in
-      let wait = has-after 179 tapped one first in
-      let second = has-press 60 later (ticks 179 one) wait in
-      let joined : runOf s (pressOf 60 contact ++ (ticksOf 179 ++ pressOf 60 contact)) ≡ runOf later (pressOf 60 contact) =
-      run-joined s (pressOf 60 contact) (ticksOf 179 ++ pressOf 60 contact) ∙ run-joined tapped (ticksOf 179) (pressOf 60 contact) in
-      ap (λ (t : Switch Plain). paddleAt contact (t .plain .paddles) .taps) joined ∙ ap (λ (q : Paddle). q .taps) (second .1)
-      ∙ ap (λ (q : Paddle). pressFor 60 k (ticks 179 q) .taps) (a-tap 60 k (p .hold) (p .gap) 0 (omega arith) (omega arith) .0)
-      ∙ ap (λ (q : Paddle). q .taps) (joins 179 60 k 120 180 1 (omega arith) (omega arith) (omega arith))
+pub has-pressed : (contact : ℕ) → contact ≤ 3 → (s : Switch Plain) (q : Paddle) → Has s contact q
+    → Has (respond s (with48 (press contact)) .next) contact (pressed (kindOf contact) q)
+unfolding Product.respond settled pressing finished pressedAt paddleOf
+has-pressed contact known s q h =
+    let same = ap (λ (j : Asked). settled (s .password) j .next .plain .paddles) (press-job (s .plain) 48 contact (omega arith) known) in
+    rw same (length-set (s .plain .paddles) _ _ ∙ h .0, getD-set-same (s .plain .paddles) (contact % 2) _ fresh (omega (arith, h .0)) ∙ ap (pressed (kindOf contact)) (h .1))
 
 -- ---- (h): the fade that a Goto begins
 
@@ -245,6 +192,10 @@ rising n last target each some h =
     let lit : 0 < target .0 = three-ways (target .0) 0 (λ k. absurd (omega arith)) (λ k. absurd (omega (arith, rw k at h))) (λ k. k) in
     let far : target .0 - 0 + (0 - target .0) ≡ target .0 = omega arith in
     ap (λ (d : Dimmer). d .level) (fade-runs n off last target each some (rw far h)) ∙ rw (lt-ltb 0 (target .0) lit) (ap step (omega arith))
+
+begins-dark : (last target : Step) (each : ℕ) → 0 < each → 0 < target .0 → moved off last target each .level ≡ off
+unfolding moved
+begins-dark last target each some lit = rw (ne-eqb each 0 (omega arith), ne-eqb 0 (target .0) (omega arith))
 
 module _ (s : Switch Plain) (room : ℕ) (bytes : List ℕ) (enough : 48 ≤ room) (dark : Dark s) (level rate : ℕ) (accepts : Accepts s bytes (order.Goto level rate)) where
   abbrev goto : Event
@@ -263,18 +214,22 @@ module _ (s : Switch Plain) (room : ℕ) (bytes : List ℕ) (enough : 48 ≤ roo
   unfolding Product.respond obeying answering obeyed signalled performed setting unwritten settled
   goto-dimmer = ap (λ (j : Asked). settled (s .password) j .next .plain .core .dimmer) goto-job
 
+  goto-mode : modeIn (respond s goto .next) ≡ modeIn s
+  unfolding Product.respond obeying answering obeyed signalled performed setting unwritten settled
+  goto-mode = ap (λ (j : Asked). settled (s .password) j .next .plain .core .mode) goto-job
+
   goto-rests : AtRest (respond s goto .next)
   unfolding Product.respond obeying answering obeyed settled
   goto-rests = rest-as s (respond s goto .next) (ap (λ (j : Asked). settled (s .password) j .next .plain .paddles) goto-job) (dark .rests)
 
-  goto-shows : Shows (set-dimmer .level) [] (respond s goto .shown)
+  goto-shows : Shows (modeIn s) (set-dimmer .level) [] (respond s goto .shown)
   unfolding Product.respond obeying answering obeyed signalled performed setting unwritten settled replyTo replied replyMessage enveloped answerOf answerWith
-  goto-shows = subst (λ (j : Asked). Shows (set-dimmer .level) [] (settled (s .password) j .shown)) (sym goto-job) record { number = refl; level = refl; counted = refl; sent = refl }
+  goto-shows = subst (λ (j : Asked). Shows (modeIn s) (set-dimmer .level) [] (settled (s .password) j .shown)) (sym goto-job) record { number = refl; mode = refl; level = refl; counted = refl; sent = refl }
 
-  goto-ticks : (n : ℕ) (to : Step) → tickedBy n set-dimmer .level ≡ to → 1 ≤ n → Shows to [] (nthTick (respond s goto .next) n)
+  goto-ticks : (n : ℕ) (to : Step) → tickedBy n set-dimmer .level ≡ to → 1 ≤ n → Shows (modeIn s) to [] (nthTick (respond s goto .next) n)
   goto-ticks n to e some =
       let t = respond s goto .next in
-      subst (λ (l : Step). Shows l [] (nthTick t n)) (ap (λ (d : Dimmer). tickedBy n d .level) goto-dimmer ∙ e)
+      shows-as (nthTick t n) _ _ _ _ _ _ goto-mode (ap (λ (d : Dimmer). tickedBy n d .level) goto-dimmer ∙ e) refl
       (left-to-itself t n (goto-rests .two) (rest-is-silent t n goto-rests) some)
 
   -- A capable dimmer takes the level and the rate as they are asked for.
@@ -283,31 +238,22 @@ module _ (s : Switch Plain) (room : ℕ) (bytes : List ℕ) (enough : 48 ≤ roo
   unfolding setTo allowed wanted rateOf
   goto-moves h k = simp (dark .capable, dark .level, le-ltb 100 level h, le-ltb 15 rate k)
 
-fades-half : (s : Switch Plain) (room : ℕ) (bytes : List ℕ) → 48 ≤ room → Dark s → Accepts s bytes (order.Goto 50 4)
-    → Fades s (event room (receive bytes)) 6 600 (step 100)
-unfolding stepOf ticksAt moved distance
-fades-half s room bytes enough dark accepts =
-    let moves = goto-moves s room bytes enough dark 50 4 accepts (omega arith) (omega arith) in
-    let last = remembered (step 100) (dimmerIn s .last) in
-    record {
-      begins = subst (λ (l : Step). Shows l [] (respond s (event room (receive bytes)) .shown)) (ap (λ (d : Dimmer). d .level) moves) (goto-shows s room bytes enough dark 50 4 accepts);
-      runs = λ n some h. goto-ticks s room bytes enough dark 50 4 accepts n (step (n / 6)) (ap (λ (d : Dimmer). tickedBy n d .level) moves ∙ rising n last (step 100) 6 (omega arith) h) some;
-      rests = λ n h. goto-ticks s room bytes enough dark 50 4 accepts n (step 100)
-          (ap (λ (d : Dimmer). tickedBy n d .level) moves ∙ ap (λ (d : Dimmer). d .level) (fade-ends n off last (step 100) 6 h)) (omega arith);
-    }
-
-fades-full : (s : Switch Plain) (room : ℕ) (bytes : List ℕ) → 48 ≤ room → Dark s → Accepts s bytes (order.Goto 100 15)
-    → Fades s (event room (receive bytes)) 4320 864000 full
-unfolding stepOf ticksAt moved distance
-fades-full s room bytes enough dark accepts =
-    let moves = goto-moves s room bytes enough dark 100 15 accepts (omega arith) (omega arith) in
-    let last = remembered full (dimmerIn s .last) in
-    record {
-      begins = subst (λ (l : Step). Shows l [] (respond s (event room (receive bytes)) .shown)) (ap (λ (d : Dimmer). d .level) moves) (goto-shows s room bytes enough dark 100 15 accepts);
-      runs = λ n some h. goto-ticks s room bytes enough dark 100 15 accepts n (step (n / 4320)) (ap (λ (d : Dimmer). tickedBy n d .level) moves ∙ rising n last full 4320 (omega arith) h) some;
-      rests = λ n h. goto-ticks s room bytes enough dark 100 15 accepts n full
-          (ap (λ (d : Dimmer). tickedBy n d .level) moves ∙ ap (λ (d : Dimmer). d .level) (fade-ends n off last full 4320 h)) (omega arith);
-    }
+  -- So it fades, with so many ticks for each step and so many in all.
+  fades : (each total : ℕ) (target : Step) → level ≤ 100 → rate ≤ 15 → stepOf (percent level) ≡ target → ticksAt rate ≡ each → 0 < each → 0 < target .0
+      → 1 < total → target .0 * each ≡ total → (total - 1) / each ≡ target .0 - 1 → Fades s goto each total target
+  unfolding distance
+  fades each total target h k aims takes some lit many whole short =
+      let last = remembered target (dimmerIn s .last) in
+      let before-last : total - 1 < target .0 * each = rw whole (omega arith) in
+      let moves : set-dimmer ≡ moved off last target each = goto-moves h k ∙ ap₂ (λ (l : Step) (n : ℕ). moved off (remembered l (dimmerIn s .last)) l n) aims takes in
+      let after : (n : ℕ) → tickedBy n set-dimmer .level ≡ tickedBy n (moved off last target each) .level = λ n. ap (λ (d : Dimmer). tickedBy n d .level) moves in
+      let far : target .0 - 0 + (0 - target .0) ≡ target .0 = omega arith in
+      record {
+        begins = shows-as _ _ _ _ _ _ _ refl (ap (λ (d : Dimmer). d .level) moves ∙ begins-dark last target each some lit) refl goto-shows;
+        runs = λ n first before. goto-ticks n (step (n / each)) (after n ∙ rising n last target each some (rw whole before)) first;
+        short = goto-ticks (total - 1) (step (target .0 - 1)) (after (total - 1) ∙ rising (total - 1) last target each some before-last ∙ ap step short) (omega arith);
+        rests = λ n before. goto-ticks n target (after n ∙ ap (λ (d : Dimmer). d .level) (fade-ends n off last target each (rw (far, whole) before))) (omega arith);
+      }
 
 -- ---- (i): the colours after a start
 
@@ -356,17 +302,12 @@ module _ (image : List ℕ) (whole : length image ≡ size) (two : getD image 0x
       ∙ version-shows (suc k) freshLamp (p .core .mode) (digitIn (p .registers)) (lightIn (p .registers)) (p .core .dimmer .level) refl (omega arith)
       ∙ ap (λ (n : ℕ). versionAfter n (suc k)) (ap (λ (n : ℕ). n % 16) (registers-agree (suc k) (s .plain) 0x0B (λ e. omega arith)) ∙ start-digit image ∙ two)
 
-red-red-green-red : tabulated (versionAfter 2) 480 ≡ blinks (Red ∷ Red ∷ Green ∷ Red ∷ [])
-unfolding tabulated versionAfter blinkAfter bitColour bit blinks repeated
-red-red-green-red = refl
-
-colours-shown : (image : List ℕ) → length image ≡ size → getD image 0x0B 0 % 16 ≡ 2
-    → startAnswer image .colour ∷ coloursOf (startedFrom image) (ticksOf 479) ≡ blinks (Red ∷ Red ∷ Green ∷ Red ∷ [])
-unfolding tabulated
-colours-shown image whole two =
-    ap₂ (λ c l. c ∷ l) (start-shows image whole two)
-    (ticks-shown (λ (x : Shown). x .answer .colour) (λ (k : ℕ). versionAfter 2 (suc k)) 479 (startedFrom image) (tick-shows image whole two))
-    ∙ red-red-green-red
+  -- The start and the first n ticks.
+  colours-shown : (n : ℕ) → n ≤ 479 → startAnswer image .colour ∷ coloursOf (startedFrom image) (ticksOf n) ≡ tabulated (versionAfter 2) (suc n)
+  unfolding tabulated
+  colours-shown n most =
+      ap₂ (λ c l. c ∷ l) start-shows
+      (ticks-shown (λ (x : Shown). x .answer .colour) (λ (k : ℕ). versionAfter 2 (suc k)) n (startedFrom image) (λ k h. tick-shows k (omega arith)))
 
 -- ---- the switches of the table
 
@@ -412,6 +353,7 @@ accepts-full = accepts packetFull 100 15 refl refl
 
 -- The whole table.
 pub cases : Cases
+unfolding stepOf ticksAt tabulated versionAfter blinkAfter bitColour bit blinks repeated
 cases = record {
   bench = bench-there;
   linked = bench-linked;
@@ -421,14 +363,14 @@ cases = record {
   c = λ s room enough bench same. (c-number s room enough bench same, c-mode s room enough bench same);
   d = d-number;
   e = e-number;
-  f-nothing = λ s contact known rest idle. is-nothing s contact known rest idle 59 (omega arith);
-  f-shortest = λ s contact known rest idle. is-tap s contact known rest idle 60 (omega arith) (omega arith);
-  f-longest = λ s contact known rest idle. is-tap s contact known rest idle 179 (omega arith) (omega arith);
-  f-hold = is-hold;
-  g = λ s contact known rest. joins-after contact known s rest;
-  h-half = fades-half;
-  h-full = fades-full;
+  f-nothing = λ s contact known rest idle. is-nothing s contact known idle rest _ (omega arith);
+  f-shortest = λ s contact known rest idle. is-tap s contact known idle rest _ (omega arith) (omega arith);
+  f-longest = λ s contact known rest idle. is-tap s contact known idle rest _ (omega arith) (omega arith);
+  f-hold = λ s contact known rest idle. is-hold s contact known idle rest;
+  g = λ s contact known rest idle normal. is-double s contact known idle rest _ _ (omega arith) (omega arith) (omega arith) normal;
+  h-half = λ s room bytes enough dark accepts. fades s room bytes enough dark _ _ accepts _ _ _ (omega arith) (omega arith) refl refl (omega arith) (omega arith) (omega arith) refl refl;
+  h-full = λ s room bytes enough dark accepts. fades s room bytes enough dark _ _ accepts _ _ _ (omega arith) (omega arith) refl refl (omega arith) (omega arith) (omega arith) refl refl;
   h-there = (dark-there, (accepts-half, accepts-full));
-  i = colours-shown;
+  i = λ image whole two. colours-shown image whole two _ (omega arith);
   j = case-j;
 }

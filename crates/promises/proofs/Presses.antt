@@ -7,10 +7,9 @@ use native.Mathlib.Omega.{arith}
 use borrow.Author.Tests.{lt-ltb, ne-eqb}
 use lib.Dec.{eqb}
 use lib.ListN.{getD, length, set}
-use lib.Seq.{getD-set-other}
 use Rattle.words.specs.Words.{if_then_else_}
-use Rattle.words.proofs.Laws.{both, two-ways}
-use Rattle.timers.specs.Timers.{beats, less, lessBy}
+use Rattle.words.proofs.Laws.{two-ways}
+use Rattle.timers.specs.Timers.{less, lessBy}
 use Rattle.units.specs.Units.{percentOf}
 use Rattle.units.specs.declared.Percent.{Percent}
 use Rattle.units.specs.declared.Step.{Step}
@@ -25,34 +24,32 @@ use Rattle.dimmer.specs.Dimmer.{dimmer, optionsOf, stopped, stoppedFrom, ticked
 use Rattle.dimmer.specs.declared.Dimmer.{Dimmer}
 use Rattle.dimmer.specs.declared.Motion.{Motion}
 use Rattle.dimmer.specs.declared.Motion.the-variants.{Idle, Fading, Blinking}
-use Rattle.paddle.specs.Paddle.{closing, completed, counted, down, ends, fresh, gesture, gestureUp, kept, left, next, none, pressed, released}
-use Rattle.paddle.specs.Promises.{due, gestureAfter, gestureFor, past, pressFor, raised, skip, ticks, wait, waitFor}
+use Rattle.paddle.specs.Paddle.{closing, counted, down, fresh, gesture, gestureUp, left, next, none, pressed, released}
+use Rattle.paddle.specs.Promises.{due, gestureFor, past, pressFor, raised, skip, ticks, wait, waitFor}
 use Rattle.paddle.specs.declared.Contact.{Contact}
 use Rattle.paddle.specs.declared.Gesture.{Gesture}
 use Rattle.paddle.specs.declared.Gesture.the-variants.{Hold, Nothing, Release, Taps}
 use Rattle.paddle.specs.declared.Paddle.{Paddle}
 use Rattle.paddle.proofs.Laws as paddle
-use Rattle.registers.specs.Places.{dimmingIn, doubleIn, entryIn, savedPlace, singleIn, transmitIn}
-use Rattle.registers.specs.Write.{applied, stored}
-use Rattle.registers.specs.declared.places.Action.{Action}
-use Rattle.registers.specs.declared.places.Entry.{Entry}
-use Rattle.registers.specs.declared.places.Transmit.{Transmit}
+use Rattle.registers.specs.Places.{dimmingIn, doubleIn, entryIn, singleIn, transmitIn}
+use Rattle.registers.specs.Write.{applied}
 use Rattle.registers.specs.declared.write.Write.{Write}
-use Rattle.registers.specs.declared.write.Write.the-variants.{Save, Nothing as Unwritten}
-use Rattle.acts.specs.Core.{aged, saved, setting, stopping, toSave, unwritten}
+use Rattle.registers.specs.declared.write.Write.the-variants.{Factory as FactoryValues, Nothing as Unwritten}
+use Rattle.acts.specs.Core.{aged, effect, entering, opened, saved, setting, stopping, unwritten}
 use Rattle.acts.specs.Gestures.{acted, actedIn, doing, far, holding, inFactory, inNormal, inSetup, leads, tapsInFactory, tapsInNormal, tapsInSetup, writes}
 use Rattle.acts.specs.declared.Core.{Core}
+use Rattle.acts.specs.declared.Effect.{Effect}
 use Rattle.acts.proofs.Laws.{gesture-leads, gesture-writes}
 use Rattle.post.specs.Post.{announced, chosen, gestureMessage}
-use Rattle.switch.specs.Switch.{Event, Plain, Shown, answerOf, answerWith, event, plain, press, release, tick}
+use Rattle.switch.specs.Switch.{Event, Plain, answerOf, answerWith, plain, press, release, tick}
 use Rattle.switch.specs.Paddles.{Moment, after, turned, turns}
-use Rattle.switch.specs.Events.{Asked, begun, finished, gestureAt, kindOf, paddleAt, paddleOf, pressedAt, releasedAt, releasing, signalled, signalledBy, ticking}
+use Rattle.switch.specs.Events.{begun, finished, gestureAt, kindOf, paddleAt, paddleOf, pressedAt, releasedAt, releasing, signalled, signalledBy, ticking}
 use Rattle.switch.specs.Code.{quiet}
 use Rattle.switch.specs.Respond.{respond, wallSwitch}
 use Rattle.switch.proofs.Quick.{plainly, quick-press, quick-release, turned-nothing}
-use Rattle.promises.specs.Ticking.{AtRest, IsHold, IsNothing, IsTap, Shows, ShowsGesture, Silent, Unseen, dimmerBy, dimmerIn, levelIn, nextTick, nthTick, packetsBy, pressOf, runOf, ticksOf, with48}
+use Rattle.promises.specs.Ticking.{AtRest, IsHold, IsNothing, IsTaps, Shows, dimmerBy, dimmerIn, modeIn, nthTick, packetsBy, pressOf, runOf, ticksOf, with48}
 use Rattle.promises.proofs.Jobs.{release-job, tick-job}
-use Rattle.promises.proofs.Ticks.{Agrees, left-to-itself, plainly-shows, quiet-tick, run-joined, run-more, save-agrees, throughout-joined, throughout-ticks, ticks-shift, untapped, up-untapped}
+use Rattle.promises.proofs.Ticks.{Agrees, left-to-itself, plainly-shows, quiet-tick, run-joined, run-more, save-agrees, shows-as, throughout-joined, ticks-shift, untapped, up-untapped}
 
 -- ---- registers that differ in the saved level alone
 
@@ -98,39 +95,31 @@ unfolding announced gestureMessage
 same-announced all now same mode i g p =
     rw (same-transmit all now same i, same 0x00 (λ e. omega arith), same 0x01 (λ e. omega arith), same-chosen all now same)
 
--- The gestures of (f): one tap, Hold and Release. They write nothing and leave the mode.
-abbrev Plainly : Gesture → Type 0
-Plainly Nothing = Unit {0}
-Plainly (Taps n) = n ≡ 1
-Plainly Hold = Unit {0}
-Plainly Release = Unit {0}
+-- A gesture that writes nothing and leaves the mode: one tap, Hold and Release in every mode, two taps in Normal.
+abbrev Plainly : Mode → Gesture → Type 0
+Plainly mode g = (writes mode g ≡ Unwritten) × (leads mode g ≡ mode)
 
-plainly-writes : (mode : Mode) (g : Gesture) → Plainly g → writes mode g ≡ Unwritten
-unfolding writes
-plainly-writes Normal Nothing one = refl
-plainly-writes Normal (Taps n) one = rw one
-plainly-writes Normal Hold one = refl
-plainly-writes Normal Release one = refl
-plainly-writes Setup Nothing one = refl
-plainly-writes Setup (Taps n) one = rw one
-plainly-writes Setup Hold one = refl
-plainly-writes Setup Release one = refl
-plainly-writes Factory g one = refl
+one-tap : (mode : Mode) → Plainly mode (Taps 1)
+unfolding writes leads
+one-tap Normal = (refl, refl)
+one-tap Setup = (refl, refl)
+one-tap Factory = (refl, refl)
 
-plainly-leads : (mode : Mode) (g : Gesture) → Plainly g → leads mode g ≡ mode
-unfolding leads
-plainly-leads Normal Nothing one = refl
-plainly-leads Normal (Taps n) one = rw one
-plainly-leads Normal Hold one = refl
-plainly-leads Normal Release one = refl
-plainly-leads Setup Nothing one = refl
-plainly-leads Setup (Taps n) one = rw one
-plainly-leads Setup Hold one = refl
-plainly-leads Setup Release one = refl
-plainly-leads Factory Nothing one = refl
-plainly-leads Factory (Taps n) one = rw one
-plainly-leads Factory Hold one = refl
-plainly-leads Factory Release one = refl
+two-taps : (mode : Mode) → mode ≡ Normal → Plainly mode (Taps 2)
+unfolding writes leads
+two-taps mode normal = rw normal (refl, refl)
+
+holding-on : (mode : Mode) → Plainly mode Hold
+unfolding writes leads
+holding-on Normal = (refl, refl)
+holding-on Setup = (refl, refl)
+holding-on Factory = (refl, refl)
+
+letting-go : (mode : Mode) → Plainly mode Release
+unfolding writes leads
+letting-go Normal = (refl, refl)
+letting-go Setup = (refl, refl)
+letting-go Factory = (refl, refl)
 
 -- What a gesture does to the dimmer hangs on the mode, the dimmer and the other registers.
 module _ (all now : List ℕ) (same : Agrees all now) (i : ℕ) (c d : Core) (alike : d .dimmer ≡ c .dimmer) where
@@ -146,24 +135,62 @@ module _ (all now : List ℕ) (same : Agrees all now) (i : ℕ) (c d : Core) (al
       go true = same-setting (far i) 255
       go false = alike
 
-  same-in : (mode : Mode) (g : Gesture) → Plainly g → actedIn mode now i g d .core .dimmer ≡ actedIn mode all i g c .core .dimmer
-  unfolding actedIn inNormal inSetup inFactory tapsInNormal tapsInSetup tapsInFactory unwritten doing stopping
-  same-in Normal (Taps n) one = rw (one, same-single all now same i) (same-setting (singleIn all i .level) (singleIn all i .rate))
-  same-in Setup (Taps n) one = rw one alike
-  same-in Factory (Taps n) one = rw (one, same-single all now same i) (same-setting (singleIn all i .level) (singleIn all i .rate))
-  same-in Normal Hold one = same-holding
-  same-in Setup Hold one = alike
-  same-in Factory Hold one = same-holding
-  same-in Normal Release one = rw alike
-  same-in Setup Release one = alike
-  same-in Factory Release one = rw alike
-  same-in Normal Nothing one = alike
-  same-in Setup Nothing one = alike
-  same-in Factory Nothing one = alike
+  same-taps-in-normal : (n : ℕ) → tapsInNormal now i n d .core .dimmer ≡ tapsInNormal all i n c .core .dimmer
+  unfolding tapsInNormal unwritten doing opened entering
+  same-taps-in-normal n = rw (same-single all now same i, same-double all now same i) (go (eqb n 1) (eqb n 2) (eqb n 5))
+    where
+      by : Bool → Bool → Bool → List ℕ → Core → Effect
+      by one two five r e =
+          if one then unwritten (doing r (singleIn all i) e) else if two then unwritten (doing r (doubleIn all i) e) else if five then opened e else unwritten e
 
-  same-acted : (g : Gesture) → Plainly g → d .mode ≡ c .mode → acted now i g d .core .dimmer ≡ acted all i g c .core .dimmer
+      go : (one two five : Bool) → by one two five now d .core .dimmer ≡ by one two five all c .core .dimmer
+      go true two five = same-setting (singleIn all i .level) (singleIn all i .rate)
+      go false true five = same-setting (doubleIn all i .level) (doubleIn all i .rate)
+      go false false true = alike
+      go false false false = alike
+
+  same-taps-in-setup : (n : ℕ) → tapsInSetup n d .core .dimmer ≡ tapsInSetup n c .core .dimmer
+  unfolding tapsInSetup unwritten entering
+  same-taps-in-setup n = go (eqb n 2) (eqb n 10)
+    where
+      by : Bool → Bool → Core → Effect
+      by two ten e = if two then unwritten (entering Normal e) else if ten then effect (entering Factory e) FactoryValues else unwritten e
+
+      go : (two ten : Bool) → by two ten d .core .dimmer ≡ by two ten c .core .dimmer
+      go true ten = alike
+      go false true = alike
+      go false false = alike
+
+  same-taps-in-factory : (n : ℕ) → tapsInFactory now i n d .core .dimmer ≡ tapsInFactory all i n c .core .dimmer
+  unfolding tapsInFactory unwritten doing entering
+  same-taps-in-factory n = rw (same-single all now same i) (go (eqb n 1) (eqb n 2))
+    where
+      by : Bool → Bool → List ℕ → Core → Effect
+      by one two r e = if one then unwritten (doing r (singleIn all i) e) else if two then unwritten (entering Normal e) else unwritten e
+
+      go : (one two : Bool) → by one two now d .core .dimmer ≡ by one two all c .core .dimmer
+      go true two = same-setting (singleIn all i .level) (singleIn all i .rate)
+      go false true = alike
+      go false false = alike
+
+  same-in : (mode : Mode) (g : Gesture) → actedIn mode now i g d .core .dimmer ≡ actedIn mode all i g c .core .dimmer
+  unfolding actedIn inNormal inSetup inFactory unwritten stopping
+  same-in Normal Nothing = alike
+  same-in Normal (Taps n) = same-taps-in-normal n
+  same-in Normal Hold = same-holding
+  same-in Normal Release = rw alike
+  same-in Setup Nothing = alike
+  same-in Setup (Taps n) = same-taps-in-setup n
+  same-in Setup Hold = alike
+  same-in Setup Release = alike
+  same-in Factory Nothing = alike
+  same-in Factory (Taps n) = same-taps-in-factory n
+  same-in Factory Hold = same-holding
+  same-in Factory Release = rw alike
+
+  same-acted : (g : Gesture) → d .mode ≡ c .mode → acted now i g d .core .dimmer ≡ acted all i g c .core .dimmer
   unfolding acted
-  same-acted g one mode = ap (λ (m : Mode). actedIn m now i g d .core .dimmer) mode ∙ same-in (c .mode) g one
+  same-acted g mode = ap (λ (m : Mode). actedIn m now i g d .core .dimmer) mode ∙ same-in (c .mode) g
 
 -- ---- two paddles by the number of one of them: its own, and the other
 
@@ -266,10 +293,11 @@ signalled-dimmer [] c = (refl, refl)
 signalled-dimmer (p ∷ sent) c = (refl, refl)
 
 module _ (s : Switch Plain) (m : Moment) (ps : List Paddle) where
-  finished-shows : Shows (m .core .dimmer .level) (m .sent) (settled (s .password) (finished m ps) .shown)
+  finished-shows : Shows (m .core .mode) (m .core .dimmer .level) (m .sent) (settled (s .password) (finished m ps) .shown)
   unfolding settled finished answerOf answerWith
   finished-shows = record {
     number = refl;
+    mode = signalled-dimmer (m .sent) (m .core) .1;
     level = ap (λ (d : Dimmer). d .level) (signalled-dimmer (m .sent) (m .core) .0);
     counted = refl;
     sent = refl;
@@ -300,24 +328,24 @@ record Like (s : Switch Plain) (d : Dimmer) (i : ℕ) (own other : Paddle) (t : 
   has : dimmerIn t ≡ d
   registers : Agrees (s .plain .registers) (t .plain .registers)
 
--- Events that pass unseen, and the switch after them.
+-- Events of which nothing comes, and the switch after them.
 record Passed (s : Switch Plain) (d : Dimmer) (i : ℕ) (own other : Paddle) (t : Switch Plain) (es : List Event) : Type 0 where
   now : Like s d i own other (runOf t es)
-  unseen : Throughout (machine wallSwitch) (λ u e. Shows (d .level) [] (respond u e .shown)) t es
+  unmoved : Throughout (machine wallSwitch) (λ u e. Shows (modeIn s) (d .level) [] (respond u e .shown)) t es
 
 module _ (s : Switch Plain) (d : Dimmer) (i : ℕ) (own other : Paddle) (t : Switch Plain) where
   both-passed : (es fs : List Event) (own′ other′ : Paddle) → Passed s d i own′ other′ t es → Passed s d i own other (runOf t es) fs
       → Passed s d i own other t (es ++ fs)
   both-passed es fs own′ other′ first second = record {
     now = subst (Like s d i own other) (sym (run-joined t es fs)) (second .now);
-    unseen = throughout-joined (λ u e. Shows (d .level) [] (respond u e .shown)) t es fs (first .unseen) (second .unseen);
+    unmoved = throughout-joined (λ u e. Shows (modeIn s) (d .level) [] (respond u e .shown)) t es fs (first .unmoved) (second .unmoved);
   }
 
   one-passed : (e : Event) (p : Plain) (w : Password) → respond t e ≡ plainly p w → Like s d i own other (switch p w) → Passed s d i own other t (e ∷ [])
   unfolding run
   one-passed e p w same like = record {
     now = subst (Like s d i own other) (sym (ap (λ a. a .next) same)) like;
-    unseen = (subst (λ (l : Step). Shows l [] (respond t e .shown)) (ap (λ (x : Dimmer). x .level) (like .has)) (plainly-shows t e p w same), tt);
+    unmoved = (shows-as (respond t e .shown) _ _ _ _ _ _ (like .mode) (ap (λ (x : Dimmer). x .level) (like .has)) refl (plainly-shows t e p w same), tt);
   }
 
   -- A tick that completes nothing.
@@ -335,7 +363,7 @@ module _ (s : Switch Plain) (d : Dimmer) (i : ℕ) (own other : Paddle) (t : Swi
               has = level;
               registers = λ place h. save-agrees (aged (t .plain .core)) (t .plain .registers) place h ∙ like .registers place h;
             };
-        unseen = (subst (λ (l : Step). Shows l [] (respond t (with48 tick) .shown)) (ap (λ (x : Dimmer). x .level) level) (plainly-shows t (with48 tick) _ _ same), tt);
+        unmoved = (shows-as (respond t (with48 tick) .shown) _ _ _ _ _ _ (like .mode) (ap (λ (x : Dimmer). x .level) level) refl (plainly-shows t (with48 tick) _ _ same), tt);
       }
 
 -- A paddle that completes nothing in n ticks.
@@ -348,7 +376,7 @@ quiet-on n p q k h = ap gesture (ticks-shift k p) ∙ q (suc k) (omega arith)
 ticks-passed : (s : Switch Plain) (d : Dimmer) (i n : ℕ) (own other : Paddle) (t : Switch Plain) → Like s d i own other t → d .motion ≡ Idle
     → QuietFor n own → QuietFor n other → Passed s d i (ticks n own) (ticks n other) t (ticksOf n)
 unfolding run ticks ticksOf
-ticks-passed s d i zero own other t like idle a b = record { now = like; unseen = tt }
+ticks-passed s d i zero own other t like idle a b = record { now = like; unmoved = tt }
 ticks-passed s d i (suc n) own other t like idle a b =
     let one = tick-passed s d i own other t like idle (a 0 (omega arith)) (b 0 (omega arith)) in
     let on = ticks-passed s d i n (next own) (next other) (respond t (with48 tick) .next) (one .now) idle (quiet-on n own a) (quiet-on n other b) in
@@ -387,14 +415,11 @@ module _ (s : Switch Plain) (d : Dimmer) (contact : ℕ) (known : contact ≤ 3)
 
 -- ---- a gesture that acts
 
-shows-as : (x : Shown) (level to : Step) (sent packets : List (List ℕ)) → level ≡ to → sent ≡ packets → Shows level sent x → Shows to packets x
-shows-as x level to sent packets e f shows = subst (λ (l : Step). Shows l packets x) e (subst (λ (l : List (List ℕ)). Shows level l x) f shows)
-
 -- The moment after the turn of such a gesture, where the dimmer comes to E.
-module _ (p : Plain) (c : Core) (i : ℕ) (g : Gesture) (one : Plainly g) (E : Dimmer) (comes : acted (p .registers) i g c .core .dimmer ≡ E) where
+module _ (p : Plain) (c : Core) (i : ℕ) (g : Gesture) (one : Plainly (c .mode) g) (E : Dimmer) (comes : acted (p .registers) i g c .core .dimmer ≡ E) where
   turned-registers : turned i g (begun p c) .registers ≡ p .registers
   unfolding turned after applied
-  turned-registers = ap (λ (w : Write). applied w [] (p .registers)) (gesture-writes (p .registers) i g c ∙ plainly-writes (c .mode) g one)
+  turned-registers = ap (λ (w : Write). applied w [] (p .registers)) (gesture-writes (p .registers) i g c ∙ one .0)
 
   turned-dimmer : turned i g (begun p c) .core .dimmer ≡ E
   unfolding turned after
@@ -402,7 +427,7 @@ module _ (p : Plain) (c : Core) (i : ℕ) (g : Gesture) (one : Plainly g) (E : D
 
   turned-mode : turned i g (begun p c) .core .mode ≡ c .mode
   unfolding turned after
-  turned-mode = gesture-leads (p .registers) i g c ∙ plainly-leads (c .mode) g one
+  turned-mode = gesture-leads (p .registers) i g c ∙ one .1
 
   turned-sent : (all : List ℕ) (mode : Mode) → Agrees all (p .registers) → c .mode ≡ mode → turned i g (begun p c) .sent ≡ announced all mode i g (percentOf (E .level))
   unfolding turned after
@@ -414,10 +439,10 @@ module _ (p : Plain) (c : Core) (i : ℕ) (g : Gesture) (one : Plainly g) (E : D
 -- An event in which it acts: what is shown, and the switch after it.
 record Acts (s : Switch Plain) (E : Dimmer) (i : ℕ) (g : Gesture) (own other : Paddle) (t : Switch Plain) (e : Event) : Type 0 where
   now : Like s E i own other (respond t e .next)
-  shows : Shows (E .level) (announced (s .plain .registers) (s .plain .core .mode) i g (percentOf (E .level))) (respond t e .shown)
+  shows : Shows (modeIn s) (E .level) (announced (s .plain .registers) (modeIn s) i g (percentOf (E .level))) (respond t e .shown)
 
 module _ (s : Switch Plain) (d : Dimmer) (contact : ℕ) (own other : Paddle) (t : Switch Plain) (like : Like s d (paddleOf contact) own other t)
-    (g : Gesture) (one : Plainly g) (E : Dimmer) where
+    (g : Gesture) (one : Plainly (t .plain .core .mode) g) (E : Dimmer) where
   tick-acts : acted (t .plain .registers) (paddleOf contact) g (aged (t .plain .core)) .core .dimmer ≡ E → gesture own ≡ g → gesture other ≡ Nothing
       → Acts s E (paddleOf contact) g (next own) (next other) t (with48 tick)
   unfolding Product.respond ticking after saved aged
@@ -443,8 +468,8 @@ module _ (s : Switch Plain) (d : Dimmer) (contact : ℕ) (own other : Paddle) (t
               registers = λ place h. ap (λ (l : List ℕ). getD l place 0) (finished-registers t last ps) ∙ save-agrees (m .core) (m .registers) place h
                   ∙ ap (λ (l : List ℕ). getD l place 0) (turned-registers (t .plain) c i g one E comes) ∙ like .registers place h;
             };
-        shows = subst (λ a. Shows (E .level) (announced (s .plain .registers) (s .plain .core .mode) i g (percentOf (E .level))) (a .shown)) (sym same)
-            (shows-as _ _ _ _ _ (ap (λ (x : Dimmer). x .level) (turned-dimmer (t .plain) c i g one E comes)) sent (finished-shows t last ps));
+        shows = subst (λ a. Shows (modeIn s) (E .level) (announced (s .plain .registers) (modeIn s) i g (percentOf (E .level))) (a .shown)) (sym same)
+            (shows-as _ _ _ _ _ _ _ (turned-mode (t .plain) c i g one E comes ∙ like .mode) (ap (λ (x : Dimmer). x .level) (turned-dimmer (t .plain) c i g one E comes)) sent (finished-shows t last ps));
       }
 
   release-acts : contact ≤ 3 → acted (t .plain .registers) (paddleOf contact) g (t .plain .core) .core .dimmer ≡ E → gestureUp (kindOf contact) own ≡ g
@@ -468,42 +493,50 @@ module _ (s : Switch Plain) (d : Dimmer) (contact : ℕ) (own other : Paddle) (t
               has = finished-dimmer t m ps ∙ turned-dimmer (t .plain) c i g one E comes;
               registers = λ place h. ap (λ (l : List ℕ). getD l place 0) (finished-registers t m ps ∙ turned-registers (t .plain) c i g one E comes) ∙ like .registers place h;
             };
-        shows = subst (λ a. Shows (E .level) (announced (s .plain .registers) (s .plain .core .mode) i g (percentOf (E .level))) (a .shown)) (sym same)
-            (shows-as _ _ _ _ _ (ap (λ (x : Dimmer). x .level) (turned-dimmer (t .plain) c i g one E comes)) sent (finished-shows t m ps));
+        shows = subst (λ a. Shows (modeIn s) (E .level) (announced (s .plain .registers) (modeIn s) i g (percentOf (E .level))) (a .shown)) (sym same)
+            (shows-as _ _ _ _ _ _ _ (turned-mode (t .plain) c i g one E comes ∙ like .mode) (ap (λ (x : Dimmer). x .level) (turned-dimmer (t .plain) c i g one E comes)) sent (finished-shows t m ps));
       }
 
 -- ---- the paddles of a press
 
--- Up with no tap counted, a paddle stays so.
-rest-ticks : (n hold gap : ℕ) → ticks n (raised hold gap 0) ≡ raised hold (lessBy n gap) 0
-unfolding skip down wait waitFor past
-rest-ticks n hold gap = sym (paddle.skip-ticks n (raised hold gap 0))
+-- A paddle that completes nothing any more.
+abbrev Done : Paddle → Type 0
+Done p = (k : ℕ) → gesture (ticks k p) ≡ Nothing
 
-rest-next : (p : Paddle) (hold gap : ℕ) → p ≡ raised hold gap 0 → next p ≡ raised hold (less gap) 0
-unfolding next left kept down
-rest-next p hold gap e = ap next e ∙ ap (raised hold (less gap)) (paddle.either 0 (ends (raised hold gap 0)))
+done-next : (p : Paddle) → Done p → Done (next p)
+done-next p done k = ap gesture (ticks-shift k p) ∙ done (suc k)
 
-pressed-quiet : (n : ℕ) (k : Contact) (hold gap : ℕ) → n ≤ 179 → QuietFor n (pressed k (raised hold gap 0))
-pressed-quiet n k hold gap h m under = paddle.hold-comes m k hold gap 0 ∙ rw (ne-eqb 179 m (λ e. omega arith))
+done-ticks : (n : ℕ) (p : Paddle) → Done p → Done (ticks n p)
+unfolding ticks
+done-ticks zero p done = done
+done-ticks (suc n) p done = done-next (ticks n p) (done-ticks n p done)
 
-let-go-quiet : (n : ℕ) (k : Contact) (hold gap : ℕ) → n < 180 → gestureFor n k (raised hold gap 0) ≡ Nothing
-let-go-quiet n k hold gap h =
-    two-ways n 60 (λ short. paddle.too-short n k hold gap 0 short .1) (λ long. paddle.a-tap n k hold gap 0 long h .1)
+done-as : (p : Paddle) (hold gap : ℕ) → p ≡ raised hold gap 0 → Done p
+done-as p hold gap e k = ap (λ (q : Paddle). gesture (ticks k q)) e ∙ untapped k hold gap
 
--- A tap just counted is due after 179 ticks, and is then gone.
-tapped-quiet : (hold : ℕ) → QuietFor 179 (raised hold 180 1)
-unfolding wait waitFor down due less
-tapped-quiet hold m under = paddle.quiet m (raised hold 180 1) (ne-eqb 179 m (λ e. omega arith))
+pressed-quiet : (n : ℕ) (k : Contact) (hold gap taps : ℕ) → n ≤ 179 → QuietFor n (pressed k (raised hold gap taps))
+pressed-quiet n k hold gap taps h m under = paddle.hold-comes m k hold gap taps ∙ rw (ne-eqb 179 m (λ e. omega arith))
 
-tapped-due : (hold : ℕ) → gesture (ticks 179 (raised hold 180 1)) ≡ Taps 1
-unfolding closing
-tapped-due hold = paddle.closes hold 180 1
+let-go-quiet : (n : ℕ) (k : Contact) (hold gap taps : ℕ) → n < 180 → gestureFor n k (raised hold gap taps) ≡ Nothing
+let-go-quiet n k hold gap taps h =
+    two-ways n 60 (λ short. paddle.too-short n k hold gap taps short .1) (λ long. paddle.a-tap n k hold gap taps long h .1)
 
-tapped-gone : (n hold gap : ℕ) → gap ≡ suc n → next (ticks n (raised hold gap 1)) ≡ raised hold 0 0
-unfolding ticks skip down wait waitFor past lessBy less
-tapped-gone n hold gap e =
-    let none : gap - suc n ≡ 0 = omega arith in
-    sym (paddle.skip-ticks (suc n) (raised hold gap 1)) ∙ rw (lt-ltb (gap - 1) (suc n) (omega arith), none)
+-- A run whose last tap was just counted is due after 179 ticks, and is then gone.
+module _ (hold taps : ℕ) where
+  run-quiet : QuietFor 179 (raised hold 180 (suc taps))
+  unfolding wait waitFor down due less
+  run-quiet m under = paddle.quiet m (raised hold 180 (suc taps)) (rw (ne-eqb (suc taps) 0 (λ e. omega arith)) (ne-eqb 179 m (λ e. omega arith)))
+
+  run-due : gesture (ticks 179 (raised hold 180 (suc taps))) ≡ Taps (suc taps)
+  unfolding closing
+  run-due = paddle.closes hold 180 (suc taps) ∙ rw (ne-eqb (suc taps) 0 (λ e. omega arith))
+
+  run-gone : (n gap : ℕ) → gap ≡ suc n → next (ticks n (raised hold gap (suc taps))) ≡ raised hold 0 0
+  unfolding ticks skip down wait waitFor past lessBy less
+  run-gone n gap e =
+      let none : gap - suc n ≡ 0 = omega arith in
+      sym (paddle.skip-ticks (suc n) (raised hold gap (suc taps)))
+      ∙ rw (ne-eqb (suc taps) 0 (λ e. omega arith)) (rw (lt-ltb (gap - 1) (suc n) (omega arith), none))
 
 -- ---- a switch at rest
 
@@ -512,153 +545,180 @@ unfolding paddleOf
 other-number i h = omega arith
 
 -- With two paddles that complete nothing any more it is left to itself.
-abbrev Done : Paddle → Type 0
-Done p = (k : ℕ) → gesture (ticks k p) ≡ Nothing
-
-done-as : (p : Paddle) (hold gap : ℕ) → p ≡ raised hold gap 0 → Done p
-done-as p hold gap e k = ap (λ (q : Paddle). gesture (ticks k q)) e ∙ untapped k hold gap
-
 like-left : (s : Switch Plain) (E : Dimmer) (i : ℕ) (own other : Paddle) (t : Switch Plain) → Like s E i own other t → Done own → Done other
-    → (m : ℕ) → 1 ≤ m → Shows (tickedBy m E .level) [] (nthTick t m)
+    → (m : ℕ) → 1 ≤ m → Shows (modeIn s) (tickedBy m E .level) [] (nthTick t m)
 like-left s E i own other t like a b m some =
-    subst (λ (d : Dimmer). Shows (tickedBy m d .level) [] (nthTick t m)) (like .has)
+    shows-as (nthTick t m) _ _ _ _ _ _ (like .mode) (ap (λ (d : Dimmer). tickedBy m d .level) (like .has)) refl
     (left-to-itself t m (ap length (like .paddles) ∙ side-two i own other)
     (λ contact k h. ap (λ (ps : List Paddle). gesture (ticks k (paddleAt contact ps))) (like .paddles)
     ∙ side-each (λ (p : Paddle). gesture (ticks k p) ≡ Nothing) i own other (a k) (b k) (paddleOf contact) (below-two contact)) some)
 
-module _ (s : Switch Plain) (contact : ℕ) (known : contact ≤ 3) (rest : AtRest s) (idle : dimmerIn s .motion ≡ Idle) where
-  abbrev mine : Paddle
-  mine = paddleAt contact (s .plain .paddles)
+module _ (s : Switch Plain) (contact : ℕ) (known : contact ≤ 3) (idle : dimmerIn s .motion ≡ Idle) where
+  abbrev Now : Paddle → Paddle → Switch Plain → Type 0
+  Now own other t = Like s (dimmerIn s) (paddleOf contact) own other t
 
-  abbrev theirs : Paddle
-  theirs = getD (s .plain .paddles) (1 - paddleOf contact) fresh
+  abbrev After : Paddle → Paddle → Switch Plain → List Event → Type 0
+  After own other t es = Passed s (dimmerIn s) (paddleOf contact) own other t es
 
-  abbrev own : Paddle
-  own = raised (mine .hold) (mine .gap) 0
+  then-after : (own other own′ other′ : Paddle) (t : Switch Plain) (es fs : List Event) → After own other t es → After own′ other′ (runOf t es) fs → After own′ other′ t (es ++ fs)
+  then-after own other own′ other′ t es fs first second = both-passed s (dimmerIn s) (paddleOf contact) own′ other′ t es fs own other first second
 
-  abbrev other : ℕ → Paddle
-  other n = raised (theirs .hold) (lessBy n (theirs .gap)) 0
+  ticks-after : (n : ℕ) (own other : Paddle) (t : Switch Plain) → Now own other t → QuietFor n own → Done other → After (ticks n own) (ticks n other) t (ticksOf n)
+  ticks-after n own other t now quiet done = ticks-passed s (dimmerIn s) (paddleOf contact) n own other t now idle quiet (λ k h. done k)
 
-  before-all : Like s (dimmerIn s) (paddleOf contact) own (raised (theirs .hold) (theirs .gap) 0) s
-  before-all =
-      let i = paddleOf contact in
-      let number = other-number i (below-two contact) in
-      let up = ap (λ (j : ℕ). down (getD (s .plain .paddles) j fresh)) (sym number) ∙ rest .up (1 - i) in
-      let none = ap (λ (j : ℕ). getD (s .plain .paddles) j fresh .taps) (sym number) ∙ rest .untapped (1 - i) in
-      record {
-        paddles = sided (s .plain .paddles) (rest .two) i (below-two contact) ∙ ap₂ (side i) (up-untapped mine (rest .up contact) (rest .untapped contact)) (up-untapped theirs up none);
-        mode = refl;
-        has = refl;
-        registers = λ place h. refl;
-      }
-
-  -- The press and its first n ticks.
-  pressed-for : (n : ℕ) → n ≤ 179 → Passed s (dimmerIn s) (paddleOf contact) (ticks n (pressed (kindOf contact) own)) (other n) s (with48 (press contact) ∷ ticksOf n)
-  pressed-for n h =
-      let i = paddleOf contact in
-      let k = kindOf contact in
-      let d = dimmerIn s in
-      let o = raised (theirs .hold) (theirs .gap) 0 in
-      let edge = press-passed s d contact known own o s before-all in
-      let on = ticks-passed s d i n (pressed k own) o (runOf s (with48 (press contact) ∷ [])) (edge .now) idle (pressed-quiet n k (mine .hold) (mine .gap) h) (λ m under. untapped m (theirs .hold) (theirs .gap)) in
-      both-passed s d i (ticks n (pressed k own)) (other n) s (with48 (press contact) ∷ []) (ticksOf n) (pressed k own) o edge
-      (subst (λ (p : Paddle). Passed s d i (ticks n (pressed k own)) p (runOf s (with48 (press contact) ∷ [])) (ticksOf n)) (rest-ticks n (theirs .hold) (theirs .gap)) on)
-
-  -- A whole press of less than 180 ticks.
-  let-go-after : (n : ℕ) → n < 180 → Passed s (dimmerIn s) (paddleOf contact) (pressFor n (kindOf contact) own) (other n) s (pressOf n contact)
-  let-go-after n h =
-      let i = paddleOf contact in
-      let k = kindOf contact in
-      let d = dimmerIn s in
-      let held = pressed-for n (omega arith) in
-      let t = runOf s (with48 (press contact) ∷ ticksOf n) in
-      both-passed s d i (pressFor n k own) (other n) s (with48 (press contact) ∷ ticksOf n) (with48 (release contact) ∷ []) (ticks n (pressed k own)) (other n) held
-      (release-passed s d contact known (ticks n (pressed k own)) (other n) t (held .now) (let-go-quiet n k (mine .hold) (mine .gap) h))
-
-  -- Less than 60: nothing.
-  pub is-nothing : (n : ℕ) → n < 60 → IsNothing n contact s
-  is-nothing n h later =
-      let i = paddleOf contact in
-      let k = kindOf contact in
-      let d = dimmerIn s in
-      let up = paddle.too-short n k (mine .hold) (mine .gap) 0 h .0 in
-      let gone = let-go-after n (omega arith) in
-      let t = runOf s (pressOf n contact) in
-      let now = subst (λ (p : Paddle). Like s d i p (other n) t) up (gone .now) in
-      let on = ticks-passed s d i later _ (other n) t now idle (λ m under. untapped m _ _) (λ m under. untapped m _ _) in
-      both-passed s d i _ _ s (pressOf n contact) (ticksOf later) _ _ gone on .unseen
-
-  -- What a gesture does to the dimmer of a switch as s was, at a tick and at a release.
-  does-as : (g : Gesture) → Plainly g → (own other : Paddle) (t : Switch Plain) → Like s (dimmerIn s) (paddleOf contact) own other t
+  -- What a gesture does to the dimmer of a switch as s was.
+  does-as : (g : Gesture) (own other : Paddle) (t : Switch Plain) → Now own other t
       → acted (t .plain .registers) (paddleOf contact) g (aged (t .plain .core)) .core .dimmer ≡ dimmerBy g contact s
   unfolding aged
-  does-as g one own other t like =
-      same-acted (s .plain .registers) (t .plain .registers) (like .registers) (paddleOf contact) (s .plain .core) (aged (t .plain .core))
-      (ap ticked (like .has) ∙ idle-ticked (dimmerIn s) idle) g one (like .mode)
+  does-as g own other t now =
+      same-acted (s .plain .registers) (t .plain .registers) (now .registers) (paddleOf contact) (s .plain .core) (aged (t .plain .core))
+      (ap ticked (now .has) ∙ idle-ticked (dimmerIn s) idle) g (now .mode)
 
-  -- From 60 to 179: a tap.
-  pub is-tap : (n : ℕ) → 60 ≤ n → n < 180 → IsTap n contact s
-  unfolding counted
-  is-tap n least most =
-      let i = paddleOf contact in
-      let k = kindOf contact in
-      let d = dimmerIn s in
-      let E = dimmerBy (Taps 1) contact s in
-      let tapped : Paddle = raised (180 - n) 180 1 in
-      let gone = let-go-after n most in
-      let t = runOf s (pressOf n contact) in
-      let now = subst (λ (p : Paddle). Like s d i p (other n) t) (paddle.a-tap n k (mine .hold) (mine .gap) 0 least most .0) (gone .now) in
-      let on = ticks-passed s d i 179 tapped (other n) t now idle (tapped-quiet (180 - n)) (λ m under. untapped m _ _) in
-      let all = both-passed s d i (ticks 179 tapped) (ticks 179 (other n)) s (pressOf n contact) (ticksOf 179) _ _ gone on in
-      let u = runOf s (pressOf n contact ++ ticksOf 179) in
-      let acts = tick-acts s d contact (ticks 179 tapped) (ticks 179 (other n)) u (all .now) (Taps 1) refl E
-      (does-as (Taps 1) refl (ticks 179 tapped) (ticks 179 (other n)) u (all .now)) (tapped-due (180 - n)) (untapped 179 _ _) in
-      let last : runOf s (pressOf n contact ++ ticksOf 180) ≡ respond u (with48 tick) .next =
-      run-joined s (pressOf n contact) (ticksOf 180) ∙ run-more 179 t ∙ ap (λ (v : Switch Plain). respond v (with48 tick) .next) (sym (run-joined s (pressOf n contact) (ticksOf 179))) in
-      record {
-        before = all .unseen;
-        acts = acts .shows;
-        after = like-left s E i (next (ticks 179 tapped)) (next (ticks 179 (other n))) (runOf s (pressOf n contact ++ ticksOf 180))
-            (subst (Like s E i (next (ticks 179 tapped)) (next (ticks 179 (other n)))) (sym last) (acts .now))
-            (done-as (next (ticks 179 tapped)) (180 - n) 0 (tapped-gone 179 (180 - n) 180 refl))
-            (done-as (next (ticks 179 (other n))) _ _ (rest-next (ticks 179 (other n)) _ _ (rest-ticks 179 _ _)));
-      }
+  module _ (other : Paddle) (done : Done other) where
+    module _ (hold gap taps : ℕ) (t : Switch Plain) (now : Now (raised hold gap taps) other t) where
+      -- The press and its first n ticks.
+      pressed-for : (n : ℕ) → n ≤ 179 → After (ticks n (pressed (kindOf contact) (raised hold gap taps))) (ticks n other) t (with48 (press contact) ∷ ticksOf n)
+      pressed-for n h =
+          let k = kindOf contact in
+          let own = raised hold gap taps in
+          let edge = press-passed s (dimmerIn s) contact known own other t now in
+          let on = ticks-after n (pressed k own) other (runOf t (with48 (press contact) ∷ [])) (edge .now) (pressed-quiet n k hold gap taps h) done in
+          then-after (pressed k own) other (ticks n (pressed k own)) (ticks n other) t (with48 (press contact) ∷ []) (ticksOf n) edge on
 
-  one-tick-more : runOf s (with48 (press contact) ∷ ticksOf 180) ≡ respond (runOf s (with48 (press contact) ∷ ticksOf 179)) (with48 tick) .next
-  unfolding run
-  one-tick-more = run-more 179 (respond s (with48 (press contact)) .next)
+      -- A whole press of less than 180 ticks.
+      let-go-after : (n : ℕ) → n < 180 → After (pressFor n (kindOf contact) (raised hold gap taps)) (ticks n other) t (pressOf n contact)
+      let-go-after n h =
+          let k = kindOf contact in
+          let own = raised hold gap taps in
+          let held = pressed-for n (omega arith) in
+          then-after (ticks n (pressed k own)) (ticks n other) (pressFor n k own) (ticks n other) t (with48 (press contact) ∷ ticksOf n) (with48 (release contact) ∷ []) held
+          (release-passed s (dimmerIn s) contact known (ticks n (pressed k own)) (ticks n other) (runOf t (with48 (press contact) ∷ ticksOf n)) (held .now) (let-go-quiet n k hold gap taps h))
 
-  let-go-at-last : runOf s (pressOf 180 contact) ≡ respond (runOf s (with48 (press contact) ∷ ticksOf 180)) (with48 (release contact)) .next
-  unfolding run
-  let-go-at-last = run-joined s (with48 (press contact) ∷ ticksOf 180) (with48 (release contact) ∷ [])
+      -- It is a tap from 60 ticks on.
+      tap-after : (n : ℕ) → 60 ≤ n → n < 180 → After (raised (180 - n) 180 (counted taps)) (ticks n other) t (pressOf n contact)
+      tap-after n least most =
+          subst (λ (p : Paddle). After p (ticks n other) t (pressOf n contact)) (paddle.a-tap n (kindOf contact) hold gap taps least most .0) (let-go-after n most)
 
-  -- At 180: Hold, and Release at the edge.
-  pub is-hold : IsHold contact s
-  unfolding ticks
-  is-hold =
-      let i = paddleOf contact in
-      let k = kindOf contact in
-      let d = dimmerIn s in
-      let E = dimmerBy Hold contact s in
-      let down : Paddle = ticks 179 (pressed k own) in
-      let held = pressed-for 179 (omega arith) in
-      let t = runOf s (with48 (press contact) ∷ ticksOf 179) in
-      let acts = tick-acts s d contact down (other 179) t (held .now) Hold tt E (does-as Hold tt down (other 179) t (held .now))
-      (paddle.hold-comes 179 k (mine .hold) (mine .gap) 0) (untapped 0 _ _) in
-      let u = runOf s (with48 (press contact) ∷ ticksOf 180) in
-      let now = subst (Like s E i (next down) (next (other 179))) (sym one-tick-more) (acts .now) in
-      let F = acted (u .plain .registers) i Release (u .plain .core) .core .dimmer in
-      let up = release-acts s E contact (next down) (next (other 179)) u now Release tt F known refl (paddle.a-hold 180 k (mine .hold) (mine .gap) 0 (omega arith) .1) in
-      let level : F .level ≡ E .level = released-level (u .plain .registers) i (u .plain .core) ∙ ap (λ (x : Dimmer). x .level) (now .has) in
-      let stops : F .motion ≡ Idle = released-idle (u .plain .registers) i (u .plain .core)
-      (λ setup. ap (λ (x : Dimmer). x .motion) (now .has) ∙ held-in-setup (s .plain .registers) i (s .plain .core) (sym (now .mode) ∙ setup) ∙ idle) in
-      record {
-        before = held .unseen;
-        acts = acts .shows;
-        release = shows-as _ (F .level) (E .level) _ _ level (ap (λ (l : Step). packetsBy Release contact s l) level) (up .shows);
-        after = λ m some. subst (λ (l : Step). Shows l [] (nthTick (runOf s (pressOf 180 contact)) m)) (idle-ticked-by m F stops ∙ level)
-            (like-left s F i (released k (next down)) (next (other 179)) (runOf s (pressOf 180 contact))
-            (subst (Like s F i (released k (next down)) (next (other 179))) (sym let-go-at-last) (up .now))
-            (done-as (released k (next down)) 0 _ (paddle.a-hold 180 k (mine .hold) (mine .gap) 0 (omega arith) .0))
-            (done-as (next (other 179)) _ _ (rest-next (other 179) _ _ refl)) m some);
-      }
+    -- The run closes.
+    run-closes : (hold taps : ℕ) (es : List Event) → Plainly (modeIn s) (Taps (suc taps)) → After (raised hold 180 (suc taps)) other s es → IsTaps (suc taps) contact s es
+    run-closes hold taps es plain gone =
+        let i = paddleOf contact in
+        let g = Taps (suc taps) in
+        let E = dimmerBy g contact s in
+        let tapped : Paddle = raised hold 180 (suc taps) in
+        let t = runOf s es in
+        let all = then-after tapped other (ticks 179 tapped) (ticks 179 other) s es (ticksOf 179) gone (ticks-after 179 tapped other t (gone .now) (run-quiet hold taps) done) in
+        let u = runOf s (es ++ ticksOf 179) in
+        let acts = tick-acts s (dimmerIn s) contact (ticks 179 tapped) (ticks 179 other) u (all .now) g (subst (λ (m : Mode). Plainly m g) (sym (all .now .mode)) plain) E
+        (does-as g (ticks 179 tapped) (ticks 179 other) u (all .now)) (run-due hold taps) (done 179) in
+        let last : runOf s (es ++ ticksOf 180) ≡ respond u (with48 tick) .next =
+        run-joined s es (ticksOf 180) ∙ run-more 179 t ∙ ap (λ (v : Switch Plain). respond v (with48 tick) .next) (sym (run-joined s es (ticksOf 179))) in
+        record {
+          before = all .unmoved;
+          acts = acts .shows;
+          after = like-left s E i (next (ticks 179 tapped)) (next (ticks 179 other)) (runOf s (es ++ ticksOf 180))
+              (subst (Like s E i (next (ticks 179 tapped)) (next (ticks 179 other))) (sym last) (acts .now))
+              (done-as (next (ticks 179 tapped)) hold 0 (run-gone hold taps 179 180 refl)) (done-next (ticks 179 other) (done-ticks 179 other done));
+        }
+
+  module _ (rest : AtRest s) where
+    abbrev mine : Paddle
+    mine = paddleAt contact (s .plain .paddles)
+
+    abbrev theirs : Paddle
+    theirs = getD (s .plain .paddles) (1 - paddleOf contact) fresh
+
+    abbrev other : Paddle
+    other = raised (theirs .hold) (theirs .gap) 0
+
+    at-first : Now (raised (mine .hold) (mine .gap) 0) other s
+    at-first =
+        let i = paddleOf contact in
+        let number = other-number i (below-two contact) in
+        let up = ap (λ (j : ℕ). down (getD (s .plain .paddles) j fresh)) (sym number) ∙ rest .up (1 - i) in
+        let none = ap (λ (j : ℕ). getD (s .plain .paddles) j fresh .taps) (sym number) ∙ rest .untapped (1 - i) in
+        record {
+          paddles = sided (s .plain .paddles) (rest .two) i (below-two contact) ∙ ap₂ (side i) (up-untapped mine (rest .up contact) (rest .untapped contact)) (up-untapped theirs up none);
+          mode = refl;
+          has = refl;
+          registers = λ place h. refl;
+        }
+
+    other-done : Done other
+    other-done k = untapped k (theirs .hold) (theirs .gap)
+
+    -- Less than 60: nothing.
+    pub is-nothing : (n : ℕ) → n < 60 → IsNothing n contact s
+    is-nothing n h later =
+        let k = kindOf contact in
+        let up : Paddle = raised (180 - n) (mine .gap - n) 0 in
+        let gone = subst (λ (p : Paddle). After p (ticks n other) s (pressOf n contact)) (paddle.too-short n k (mine .hold) (mine .gap) 0 h .0)
+        (let-go-after other other-done (mine .hold) (mine .gap) 0 s at-first n (omega arith)) in
+        then-after up (ticks n other) (ticks later up) (ticks later (ticks n other)) s (pressOf n contact) (ticksOf later) gone
+        (ticks-after later up (ticks n other) (runOf s (pressOf n contact)) (gone .now) (λ m under. untapped m (180 - n) (mine .gap - n)) (done-ticks n other other-done)) .unmoved
+
+    -- From 60 to 179: a tap.
+    pub is-tap : (n : ℕ) → 60 ≤ n → n < 180 → IsTaps 1 contact s (pressOf n contact)
+    unfolding counted
+    is-tap n least most =
+        run-closes (ticks n other) (done-ticks n other other-done) (180 - n) 0 (pressOf n contact) (one-tap (modeIn s))
+        (tap-after other other-done (mine .hold) (mine .gap) 0 s at-first n least most)
+
+    -- A second one, pressed before the run closes, is counted with the first.
+    pub is-double : (gap n : ℕ) → gap ≤ 179 → 60 ≤ n → n < 180 → modeIn s ≡ Normal
+        → IsTaps 2 contact s (pressOf n contact ++ (ticksOf gap ++ pressOf n contact))
+    unfolding counted
+    is-double gap n within least most normal =
+        let h = 180 - n in
+        let tapped : Paddle = raised h 180 1 in
+        let o = ticks n other in
+        let o-done = done-ticks n other other-done in
+        let one = tap-after other other-done (mine .hold) (mine .gap) 0 s at-first n least most in
+        let t = runOf s (pressOf n contact) in
+        let wait = subst (λ (p : Paddle). After p (ticks gap o) t (ticksOf gap)) (paddle.run-open gap h 180 1 (omega arith))
+        (ticks-after gap tapped o t (one .now) (λ m under. run-quiet h 0 m (omega arith)) o-done) in
+        let two = tap-after (ticks gap o) (done-ticks gap o o-done) h (180 - gap) 1 (runOf t (ticksOf gap)) (wait .now) n least most in
+        let last = ticks n (ticks gap o) in
+        run-closes last (done-ticks n (ticks gap o) (done-ticks gap o o-done)) h 1 (pressOf n contact ++ (ticksOf gap ++ pressOf n contact)) (two-taps (modeIn s) normal)
+        (then-after tapped o (raised h 180 2) last s (pressOf n contact) (ticksOf gap ++ pressOf n contact) one
+        (then-after (raised h (180 - gap) 1) (ticks gap o) (raised h 180 2) last t (ticksOf gap) (pressOf n contact) wait two))
+
+    one-tick-more : runOf s (with48 (press contact) ∷ ticksOf 180) ≡ respond (runOf s (with48 (press contact) ∷ ticksOf 179)) (with48 tick) .next
+    unfolding run
+    one-tick-more = run-more 179 (respond s (with48 (press contact)) .next)
+
+    let-go-at-last : runOf s (pressOf 180 contact) ≡ respond (runOf s (with48 (press contact) ∷ ticksOf 180)) (with48 (release contact)) .next
+    unfolding run
+    let-go-at-last = run-joined s (with48 (press contact) ∷ ticksOf 180) (with48 (release contact) ∷ [])
+
+    -- At 180: Hold, and Release at the edge.
+    pub is-hold : IsHold contact s
+    unfolding ticks
+    is-hold =
+        let i = paddleOf contact in
+        let k = kindOf contact in
+        let E = dimmerBy Hold contact s in
+        let down : Paddle = ticks 179 (pressed k (raised (mine .hold) (mine .gap) 0)) in
+        let o = ticks 179 other in
+        let o-done = done-ticks 179 other other-done in
+        let held = pressed-for other other-done (mine .hold) (mine .gap) 0 s at-first 179 (omega arith) in
+        let t = runOf s (with48 (press contact) ∷ ticksOf 179) in
+        let acts = tick-acts s (dimmerIn s) contact down o t (held .now) Hold (holding-on (modeIn t)) E (does-as Hold down o t (held .now))
+        (paddle.hold-comes 179 k (mine .hold) (mine .gap) 0) (o-done 0) in
+        let u = runOf s (with48 (press contact) ∷ ticksOf 180) in
+        let now = subst (Like s E i (next down) (next o)) (sym one-tick-more) (acts .now) in
+        let F = acted (u .plain .registers) i Release (u .plain .core) .core .dimmer in
+        let up = release-acts s E contact (next down) (next o) u now Release (letting-go (modeIn u)) F known refl (paddle.a-hold 180 k (mine .hold) (mine .gap) 0 (omega arith) .1) in
+        let level : F .level ≡ E .level = released-level (u .plain .registers) i (u .plain .core) ∙ ap (λ (x : Dimmer). x .level) (now .has) in
+        let stops : F .motion ≡ Idle = released-idle (u .plain .registers) i (u .plain .core)
+        (λ setup. ap (λ (x : Dimmer). x .motion) (now .has) ∙ held-in-setup (s .plain .registers) i (s .plain .core) (sym (now .mode) ∙ setup) ∙ idle) in
+        record {
+          before = held .unmoved;
+          acts = acts .shows;
+          release = shows-as _ _ _ (F .level) (E .level) _ _ refl level (ap (λ (l : Step). packetsBy Release contact s l) level) (up .shows);
+          after = λ m some. subst (λ (l : Step). Shows (modeIn s) l [] (nthTick (runOf s (pressOf 180 contact)) m)) (idle-ticked-by m F stops ∙ level)
+              (like-left s F i (released k (next down)) (next o) (runOf s (pressOf 180 contact))
+              (subst (Like s F i (released k (next down)) (next o)) (sym let-go-at-last) (up .now))
+              (done-as (released k (next down)) 0 _ (paddle.a-hold 180 k (mine .hold) (mine .gap) 0 (omega arith) .0))
+              (done-next o o-done) m some);
+        }

@@ -4,21 +4,20 @@ use mathlib.Core.List.{List, [], _∷_, _++_, map}
 use mathlib.Core.Path.{_≡_, refl, sym, ap, ap₂, _∙_, subst}
 use Prim.Native.Nat.{ℕ, zero, suc, _+_, _-_, _%_, _<_, _≤_}
 use native.Mathlib.Omega.{arith}
-use lib.ListN.{getD, length, set}
+use lib.ListN.{getD, length}
 use lib.Seq.{getD-set-other}
 use Rattle.words.proofs.Laws.{both}
 use Rattle.timers.specs.Timers.{beats, turned as turnedAround, turnedBy}
 use Rattle.timers.proofs.Laws.{turned-more, turned-none}
 use Rattle.units.specs.Units.{percentOf}
+use Rattle.units.specs.declared.Step.{Step}
 use Rattle.vault.specs.Job.{Switch, became, change, changed, nothing, settled, switch}
 use Rattle.vault.specs.Machine.{Throughout, run, transcript}
 use Rattle.vault.specs.Product
 use Rattle.vault.specs.Product.{machine}
+use Rattle.vault.specs.declared.Mode.{Mode}
 use Rattle.vault.specs.declared.Password.{Password}
-use Rattle.dimmer.specs.Dimmer.{dimmer, ticked, tickedBy, tickedByFrom, tickedFrom}
-use Rattle.dimmer.specs.declared.Dimmer.{Dimmer}
-use Rattle.dimmer.specs.declared.Motion.{Motion}
-use Rattle.dimmer.specs.declared.Motion.the-variants.{Idle}
+use Rattle.dimmer.specs.Dimmer.{dimmer, ticked, tickedBy}
 use Rattle.dimmer.proofs.Laws.{ticked-more, ticked-none}
 use Rattle.lamp.specs.Lamp.{next as lampTicked}
 use Rattle.lamp.specs.Promises.{skip as lampAfter}
@@ -34,13 +33,13 @@ use Rattle.registers.specs.declared.write.Write.{Write}
 use Rattle.registers.specs.declared.write.Write.the-variants.{Save, Nothing as Unwritten}
 use Rattle.acts.specs.Core.{aged, core, saveTicks, saved, toSave}
 use Rattle.acts.specs.declared.Core.{Core}
-use Rattle.switch.specs.Switch.{Event, Plain, Shown, answerOf, answerWith, event, plain, tick}
+use Rattle.switch.specs.Switch.{Event, Plain, Shown, answerOf, answerWith, event, plain, tally, tick}
 use Rattle.switch.specs.Paddles.{after, followed, over}
 use Rattle.switch.specs.Events.{begun, finished, paddleAt, paddleOf, signalledBy, ticking}
 use Rattle.switch.specs.Code.{quiet}
 use Rattle.switch.specs.Respond.{respond, wallSwitch}
 use Rattle.switch.proofs.Quick.{plainly, turns-quiet}
-use Rattle.promises.specs.Ticking.{AtRest, LeftToItself, RestIsSilent, Shows, Silent, Ticking, dimmerIn, nextTick, nthTick, runOf, ticksOf, with48}
+use Rattle.promises.specs.Ticking.{AtRest, ByItself, LeftToItself, RestIsSilent, Shows, Silent, dimmerIn, modeIn, nextTick, nthTick, runOf, ticksOf, with48}
 use Rattle.promises.proofs.Jobs.{tick-job}
 
 -- ---- runs of ticks
@@ -66,18 +65,12 @@ unfolding run ticksOf
 run-more zero s = refl
 run-more (suc n) s = run-more n (respond s (with48 tick) .next)
 
--- What holds at each of n ticks holds throughout them, and what holds throughout two runs holds throughout both.
-module _ (C : Switch Plain → Event → Type 0) where
-  pub throughout-ticks : (n : ℕ) (s : Switch Plain) → ((k : ℕ) → k < n → C (runOf s (ticksOf k)) (with48 tick)) → Throughout (machine wallSwitch) C s (ticksOf n)
-  unfolding run ticksOf
-  throughout-ticks zero s each = tt
-  throughout-ticks (suc n) s each = (each 0 (omega arith), throughout-ticks n (respond s (with48 tick) .next) (λ k h. each (suc k) (omega arith)))
-
-  pub throughout-joined : (s : Switch Plain) (es fs : List Event) → Throughout (machine wallSwitch) C s es → Throughout (machine wallSwitch) C (runOf s es) fs
-      → Throughout (machine wallSwitch) C s (es ++ fs)
-  unfolding run
-  throughout-joined s [] fs a b = b
-  throughout-joined s (e ∷ es) fs a b = (a .0, throughout-joined (respond s e .next) es fs (a .1) b)
+-- What holds throughout two runs, one after the other, holds throughout both.
+pub throughout-joined : (C : Switch Plain → Event → Type 0) (s : Switch Plain) (es fs : List Event)
+    → Throughout (machine wallSwitch) C s es → Throughout (machine wallSwitch) C (runOf s es) fs → Throughout (machine wallSwitch) C s (es ++ fs)
+unfolding run
+throughout-joined C s [] fs a b = b
+throughout-joined C s (e ∷ es) fs a b = (a .0, throughout-joined C (respond s e .next) es fs (a .1) b)
 
 -- What n ticks show, one by one.
 unfoldable pub tabulated : {A : Type 0} → (ℕ → A) → ℕ → List A
@@ -113,14 +106,22 @@ quiet-tick s room enough still =
     rw (tick-job (s .plain) room enough, turns-quiet (s .plain .paddles) 0 (begun (s .plain) (aged (s .plain .core))) still, save-keeps (aged (s .plain .core)))
 
 -- What such an event shows.
-pub plainly-shows : (s : Switch Plain) (e : Event) (p : Plain) (w : Password) → respond s e ≡ plainly p w → Shows (p .core .dimmer .level) [] (respond s e .shown)
+pub plainly-shows : (s : Switch Plain) (e : Event) (p : Plain) (w : Password) → respond s e ≡ plainly p w
+    → Shows (p .core .mode) (p .core .dimmer .level) [] (respond s e .shown)
 unfolding answerOf answerWith
 plainly-shows s e p w same = record {
   number = ap (λ a. a .shown .answer .number) same;
+  mode = ap (λ a. a .shown .answer .mode) same;
   level = ap (λ a. a .shown .answer .level) same;
   counted = ap (λ a. a .shown .answer .sent) same;
   sent = ap (λ a. a .shown .sent) same;
 }
+
+-- The same, said of what the mode, the level and the packets are.
+pub shows-as : (x : Shown) (mode kind : Mode) (level to : Step) (sent packets : List (List ℕ)) → mode ≡ kind → level ≡ to → sent ≡ packets
+    → Shows mode level sent x → Shows kind to packets x
+shows-as x mode kind level to sent packets e f g shows =
+    record { number = shows .number; mode = shows .mode ∙ e; level = shows .level ∙ f; counted = shows .counted ∙ ap tally g; sent = shows .sent ∙ g }
 
 -- ---- many of them
 
@@ -216,7 +217,7 @@ nth C n s shown = let e : suc n - 1 ≡ n = omega arith in subst (λ (k : ℕ). 
 pub left-to-itself : LeftToItself
 left-to-itself s zero two silent some = absurd (omega arith)
 left-to-itself s (suc n) two silent some =
-    nth (Shows (tickedBy (suc n) (dimmerIn s) .level) []) n s
+    nth (Shows (modeIn s) (tickedBy (suc n) (dimmerIn s) .level) []) n s
     (plainly-shows (runOf s (ticksOf n)) (with48 tick) (plainAfter (suc n) (s .plain)) (s .password) (tick-after n s (silent-quiet (suc n) s two silent)))
 
 -- A paddle that is up with no tap counted.
@@ -239,5 +240,6 @@ pub rest-is-silent : RestIsSilent
 rest-is-silent s n rest contact k h =
     ap (λ (p : Paddle). gesture (ticks k p)) (up-untapped _ (rest .up contact) (rest .untapped contact)) ∙ untapped k _ _
 
-pub ticking-promise : Ticking
-ticking-promise = record { left = left-to-itself; rest = rest-is-silent }
+-- All of it.
+pub by-itself : ByItself
+by-itself = record { left = left-to-itself; rest = rest-is-silent }

@@ -1,4 +1,4 @@
--- "Numbers to test by": the cases (a) to (j) as one table, of every switch that the text describes.
+-- Document 01, "Numbers to test by": the cases (a) to (j) as one table, of every switch that the text describes.
 use mathlib.Core.Bool.{true}
 use mathlib.Core.List.{List, [], _∷_, _++_}
 use mathlib.Core.Path.{_≡_}
@@ -19,10 +19,10 @@ use Rattle.post.specs.Promises.{CaseJ}
 use Rattle.switch.specs.Switch.{Plain, event, receive}
 use Rattle.switch.specs.Respond.{respond, startAnswer, startedFrom}
 use Rattle.promises.specs.Numbers.{numberAt}
-use Rattle.promises.specs.Ticking.{Accepts, AtRest, Fades, IsHold, IsNothing, IsTap, blinks, coloursOf, dimmerIn, levelIn}
+use Rattle.promises.specs.Ticking.{Accepts, AtRest, Fades, IsHold, IsNothing, IsTaps, blinks, coloursOf, dimmerIn, levelIn, modeIn}
 unfoldable pub use Rattle.promises.specs.Ticking.{paddleAfter, pressOf, runOf, ticksOf, with48}
 
--- "Network 1, unit 5, level step 80, Normal, dimming capable."
+-- The switch of its first sentence.
 pub record Bench (s : Switch Plain) : Type 0 where
   pub network : networkIn (s .plain .registers) ≡ 1
   pub unit : unitIn (s .plain .registers) ≡ 5
@@ -75,37 +75,40 @@ pub record Cases : Type 0 where
   pub linked : found (startedFrom benchImage .plain .registers) 3 ≡ At 0
   -- Every start leaves a switch at rest, with nothing running.
   pub rests : (image : List ℕ) → AtRest (startedFrom image) × (dimmerIn (startedFrom image) .motion ≡ Idle)
-  -- "(a) 07 00 01 05 09 30 BA is answered by 08 00 01 09 05 86 28 3B."
+  -- (a): Report Status is answered 0 and by a status of 40 percent.
   pub a : (s : Switch Plain) (room : ℕ) → 48 ≤ room → Bench s
       → (numberAt s (event room (receive packetA)) ≡ 0) × (respond s (event room (receive packetA)) .shown .sent ≡ replyA ∷ [])
-  -- "(b) 89 00 01 03 09 22 32 00 16 on link 3 snaps to step 100."
+  -- (b): Goto 50 percent at rate 0, on link 3, is there at once, and nothing runs.
   pub b : (s : Switch Plain) (room i : ℕ) → 48 ≤ room → Bench s → found (s .plain .registers) 3 ≡ At i
       → (numberAt s (event room (receive packetB)) ≡ 0)
       × ((respond s (event room (receive packetB)) .shown .answer .level ≡ step 100)
       × (respond s (event room (receive packetB)) .next .plain .core .dimmer .motion ≡ Idle))
-  -- "(c) 09 00 01 05 09 03 12 34 9F with password 0x12 0x34 enters Setup; (d) with any other, 14."
+  -- (c): Start Setup with the right password leads into Setup. (d): where the password is another, it is 14.
   pub c : (s : Switch Plain) (room : ℕ) → 48 ≤ room → Bench s → s .password ≡ password 0x12 0x34
       → (numberAt s (event room (receive packetC)) ≡ 0) × (respond s (event room (receive packetC)) .shown .answer .mode ≡ Setup)
   pub d : (s : Switch Plain) (room : ℕ) → 48 ≤ room → Bench s → (s .password ≡ password 0x12 0x34 → ⊥)
       → numberAt s (event room (receive packetC)) ≡ 14
-  -- "(e) last byte of (a) BB: 7." In every switch.
+  -- (e): packet (a) with another last byte is 7, in every switch.
   pub e : (s : Switch Plain) (room : ℕ) → 48 ≤ room → numberAt s (event room (receive packetE)) ≡ 7
-  -- "(f) Presses of 59, 60, 179, 180 ticks: nothing, tap, tap, Hold." By any of the four contacts of a switch at rest, in every mode.
+  -- (f): a press of 59 ticks is nothing, one of 60 or of 179 is a tap, one of 180 is Hold; by any of the four contacts of a switch at rest, in
+  -- every mode.
   pub f-nothing : (s : Switch Plain) (contact : ℕ) → contact ≤ 3 → AtRest s → dimmerIn s .motion ≡ Idle → IsNothing 59 contact s
-  pub f-shortest : (s : Switch Plain) (contact : ℕ) → contact ≤ 3 → AtRest s → dimmerIn s .motion ≡ Idle → IsTap 60 contact s
-  pub f-longest : (s : Switch Plain) (contact : ℕ) → contact ≤ 3 → AtRest s → dimmerIn s .motion ≡ Idle → IsTap 179 contact s
+  pub f-shortest : (s : Switch Plain) (contact : ℕ) → contact ≤ 3 → AtRest s → dimmerIn s .motion ≡ Idle → IsTaps 1 contact s (pressOf 60 contact)
+  pub f-longest : (s : Switch Plain) (contact : ℕ) → contact ≤ 3 → AtRest s → dimmerIn s .motion ≡ Idle → IsTaps 1 contact s (pressOf 179 contact)
   pub f-hold : (s : Switch Plain) (contact : ℕ) → contact ≤ 3 → AtRest s → dimmerIn s .motion ≡ Idle → IsHold contact s
-  -- "(g) A press at gap 179 joins the run."
-  pub g : (s : Switch Plain) (contact : ℕ) → contact ≤ 3 → AtRest s
-      → paddleAfter s contact (pressOf 60 contact ++ (ticksOf 179 ++ pressOf 60 contact)) .taps ≡ 2
-  -- "(h) Rate 4, 0 to 50%: 600 ticks; rate 15, 0 to 100%: 864,000." After a Goto, by whichever packet it comes: 6 and 4,320 ticks for each step.
+  -- (g): a press 179 ticks after a tap was counted still counts with it. In Normal.
+  pub g : (s : Switch Plain) (contact : ℕ) → contact ≤ 3 → AtRest s → dimmerIn s .motion ≡ Idle → modeIn s ≡ Normal
+      → IsTaps 2 contact s (pressOf 60 contact ++ (ticksOf 179 ++ pressOf 60 contact))
+  -- (h): from 0 to 50 percent at rate 4 a fade takes 600 ticks, 6 for each step; from 0 to 100 at rate 15 it takes 864,000, 4,320 for each step;
+  -- by whichever packet the Goto comes. There are such a switch and such packets.
   pub h-half : (s : Switch Plain) (room : ℕ) (bytes : List ℕ) → 48 ≤ room → Dark s → Accepts s bytes (order.Goto 50 4)
       → Fades s (event room (receive bytes)) 6 600 (step 100)
   pub h-full : (s : Switch Plain) (room : ℕ) (bytes : List ℕ) → 48 ≤ room → Dark s → Accepts s bytes (order.Goto 100 15)
       → Fades s (event room (receive bytes)) 4320 864000 full
   pub h-there : Dark (startedFrom darkImage) × (Accepts (startedFrom darkImage) packetHalf (order.Goto 50 4) × Accepts (startedFrom darkImage) packetFull (order.Goto 100 15))
-  -- "(i) Version digit 2: red red green red." The answer of the start and those of the 479 ticks after it.
+  -- (i): where the low four bits of register 0x0B are 2, the answer of the start and those of the 479 ticks after it show red, red, green and
+  -- red, each for 60 and then black for 60.
   pub i : (image : List ℕ) → length image ≡ size → getD image 0x0B 0 % 16 ≡ 2
       → startAnswer image .colour ∷ coloursOf (startedFrom image) (ticksOf 479) ≡ blinks (Red ∷ Red ∷ Green ∷ Red ∷ [])
-  -- "(j) Command entry 22 FF FF sends two message bytes."
+  -- (j): of the command entry 22 FF FF the first two bytes are sent.
   pub j : CaseJ

@@ -9,6 +9,7 @@ use Rattle.units.specs.declared.Step.{Step}
 use Rattle.vault.specs.Job.{Switch}
 use Rattle.vault.specs.Machine.{Throughout, run, transcript}
 use Rattle.vault.specs.Product.{machine}
+use Rattle.vault.specs.declared.Mode.{Mode}
 use Rattle.dimmer.specs.Dimmer.{tickedBy}
 use Rattle.dimmer.specs.declared.Dimmer.{Dimmer}
 use Rattle.lamp.specs.declared.Colour.{Colour}
@@ -47,25 +48,30 @@ runOf s es = run (machine wallSwitch) s es
 abbrev pub paddleAfter : Switch Plain → ℕ → List Event → Paddle
 paddleAfter s contact es = paddleAt contact (runOf s es .plain .paddles)
 
--- The level, and the dimmer that holds it.
+-- The dimmer, the level that it holds, and the mode.
 abbrev pub dimmerIn : Switch Plain → Dimmer
 dimmerIn s = s .plain .core .dimmer
 
 abbrev pub levelIn : Switch Plain → Step
 levelIn s = dimmerIn s .level
 
+abbrev pub modeIn : Switch Plain → Mode
+modeIn s = s .plain .core .mode
+
 -- ---- what is seen
 
--- An event is answered 0 and shows this level and these packets.
-pub record Shows (to : Step) (packets : List (List ℕ)) (x : Shown) : Type 0 where
+-- An event is answered 0, shows this mode and this level, and sends these packets.
+pub record Shows (kind : Mode) (to : Step) (packets : List (List ℕ)) (x : Shown) : Type 0 where
   pub number : x .answer .number ≡ 0
+  pub mode : x .answer .mode ≡ kind
   pub level : x .answer .level ≡ to
   pub counted : x .answer .sent ≡ tally packets
   pub sent : x .sent ≡ packets
 
--- Nothing is seen of some events: each is answered 0, shows the level that stood before them, and sends nothing.
-abbrev pub Unseen : Switch Plain → List Event → Type 0
-Unseen s es = Throughout (machine wallSwitch) (λ t e. Shows (levelIn s) [] (respond t e .shown)) s es
+-- Nothing comes of some events: each is answered 0, shows mode and level as they stood before them, and sends nothing. (The lamp goes by
+-- its own rules.)
+abbrev pub Unmoved : Switch Plain → List Event → Type 0
+Unmoved s es = Throughout (machine wallSwitch) (λ t e. Shows (modeIn s) (levelIn s) [] (respond t e .shown)) s es
 
 -- What the next tick shows, and what the nth tick from now shows, n counted from 1.
 abbrev pub nextTick : Switch Plain → Shown
@@ -80,11 +86,12 @@ nthTick s n = nextTick (runOf s (ticksOf (n - 1)))
 abbrev pub Silent : ℕ → Switch Plain → Type 0
 Silent n s = (contact k : ℕ) → k < n → gesture (ticks k (paddleAt contact (s .plain .paddles))) ≡ Nothing
 
--- Its nth tick is answered 0 and sends nothing, and the level is the dimmer's closed form after n ticks, whatever fades or blinks.
+-- Its nth tick is answered 0, sends nothing and leaves the mode, and the level is the dimmer's closed form after n ticks, whatever fades or
+-- blinks.
 abbrev pub LeftToItself : Type 0
 LeftToItself =
     (s : Switch Plain) (n : ℕ) → length (s .plain .paddles) ≡ 2 → Silent n s → 1 ≤ n
-    → Shows (tickedBy n (dimmerIn s) .level) [] (nthTick s n)
+    → Shows (modeIn s) (tickedBy n (dimmerIn s) .level) [] (nthTick s n)
 
 -- A switch with two paddles, both up and with no tap counted, as every start leaves them.
 pub record AtRest (s : Switch Plain) : Type 0 where
@@ -103,41 +110,42 @@ abbrev pub dimmerBy : Gesture → ℕ → Switch Plain → Dimmer
 dimmerBy g contact s = acted (s .plain .registers) (paddleOf contact) g (s .plain .core) .core .dimmer
 
 abbrev pub packetsBy : Gesture → ℕ → Switch Plain → Step → List (List ℕ)
-packetsBy g contact s level = announced (s .plain .registers) (s .plain .core .mode) (paddleOf contact) g (percentOf level)
+packetsBy g contact s level = announced (s .plain .registers) (modeIn s) (paddleOf contact) g (percentOf level)
 
--- It acts, and sends at the level after the act.
+-- It acts, sends at the level after the act, and leaves the mode.
 abbrev pub ShowsGesture : Gesture → ℕ → Switch Plain → Shown → Type 0
-ShowsGesture g contact s x = Shows (dimmerBy g contact s .level) (packetsBy g contact s (dimmerBy g contact s .level)) x
+ShowsGesture g contact s x = Shows (modeIn s) (dimmerBy g contact s .level) (packetsBy g contact s (dimmerBy g contact s .level)) x
 
--- A press of n ticks is nothing: nothing is seen of it, nor of any number of ticks after it.
+-- A press of n ticks is nothing: nothing comes of it, nor of any number of ticks after it.
 abbrev pub IsNothing : ℕ → ℕ → Switch Plain → Type 0
-IsNothing n contact s = (later : ℕ) → Unseen s (pressOf n contact ++ ticksOf later)
+IsNothing n contact s = (later : ℕ) → Unmoved s (pressOf n contact ++ ticksOf later)
 
--- A press of n ticks is a tap: nothing is seen of it, nor of the 179 ticks after it; the 180th shows what one tap does and sends; from then
--- on the switch is left to itself.
-pub record IsTap (n contact : ℕ) (s : Switch Plain) : Type 0 where
-  pub before : Unseen s (pressOf n contact ++ ticksOf 179)
-  pub acts : ShowsGesture (Taps 1) contact s (nextTick (runOf s (pressOf n contact ++ ticksOf 179)))
-  pub after : (m : ℕ) → 1 ≤ m → Shows (tickedBy m (dimmerBy (Taps 1) contact s) .level) [] (nthTick (runOf s (pressOf n contact ++ ticksOf 180)) m)
+-- Some events are so many taps: nothing comes of them, nor of the 179 ticks after them; the 180th shows what so many taps do and send; from
+-- then on the switch is left to itself.
+pub record IsTaps (taps contact : ℕ) (s : Switch Plain) (es : List Event) : Type 0 where
+  pub before : Unmoved s (es ++ ticksOf 179)
+  pub acts : ShowsGesture (Taps taps) contact s (nextTick (runOf s (es ++ ticksOf 179)))
+  pub after : (m : ℕ) → 1 ≤ m → Shows (modeIn s) (tickedBy m (dimmerBy (Taps taps) contact s) .level) [] (nthTick (runOf s (es ++ ticksOf 180)) m)
 
--- A press of 180 ticks is Hold: nothing is seen of its first 179 ticks; the 180th shows what Hold does and sends; the release stops it at
+-- A press of 180 ticks is Hold: nothing comes of its first 179 ticks; the 180th shows what Hold does and sends; the release stops it at
 -- the level that it then has, and sends as Release; from then on that level stands.
 pub record IsHold (contact : ℕ) (s : Switch Plain) : Type 0 where
-  pub before : Unseen s (with48 (press contact) ∷ ticksOf 179)
+  pub before : Unmoved s (with48 (press contact) ∷ ticksOf 179)
   pub acts : ShowsGesture Hold contact s (nextTick (runOf s (with48 (press contact) ∷ ticksOf 179)))
   pub release :
-      Shows (dimmerBy Hold contact s .level) (packetsBy Release contact s (dimmerBy Hold contact s .level))
+      Shows (modeIn s) (dimmerBy Hold contact s .level) (packetsBy Release contact s (dimmerBy Hold contact s .level))
       (respond (runOf s (with48 (press contact) ∷ ticksOf 180)) (with48 (release contact)) .shown)
-  pub after : (m : ℕ) → 1 ≤ m → Shows (dimmerBy Hold contact s .level) [] (nthTick (runOf s (pressOf 180 contact)) m)
+  pub after : (m : ℕ) → 1 ≤ m → Shows (modeIn s) (dimmerBy Hold contact s .level) [] (nthTick (runOf s (pressOf 180 contact)) m)
 
 -- ---- a fade from dark
 
--- An event begins a fade from dark to a target, which shows one step more for each so many ticks, is at its target in exactly the last of
--- these ticks, and stays there.
+-- An event begins a fade from dark to a target: each tick shows one step for each so many ticks gone by, the last tick but one is one step
+-- short, and from the last tick on the target stands.
 pub record Fades (s : Switch Plain) (e : Event) (each total : ℕ) (target : Step) : Type 0 where
-  pub begins : Shows off [] (respond s e .shown)
-  pub runs : (n : ℕ) → 1 ≤ n → n < total → Shows (step (n / each)) [] (nthTick (respond s e .next) n)
-  pub rests : (n : ℕ) → total ≤ n → Shows target [] (nthTick (respond s e .next) n)
+  pub begins : Shows (modeIn s) off [] (respond s e .shown)
+  pub runs : (n : ℕ) → 1 ≤ n → n < total → Shows (modeIn s) (step (n / each)) [] (nthTick (respond s e .next) n)
+  pub short : Shows (modeIn s) (step (target .0 - 1)) [] (nthTick (respond s e .next) (total - 1))
+  pub rests : (n : ℕ) → total ≤ n → Shows (modeIn s) target [] (nthTick (respond s e .next) n)
 
 -- A packet that the switch accepts as this order.
 pub record Accepts (s : Switch Plain) (bytes : List ℕ) (o : Order) : Type 0 where
@@ -162,6 +170,6 @@ blinks [] = []
 blinks (c ∷ cs) = repeated 60 c ++ (repeated 60 Black ++ blinks cs)
 
 -- All that is promised of a switch that is left to itself.
-pub record Ticking : Type 0 where
+pub record ByItself : Type 0 where
   pub left : LeftToItself
   pub rest : RestIsSilent
