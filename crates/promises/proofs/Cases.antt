@@ -20,10 +20,10 @@ use Rattle.dimmer.specs.Dimmer.{allowed, distance, fresh as freshDimmer, moved,
 use Rattle.dimmer.specs.declared.Dimmer.{Dimmer}
 use Rattle.dimmer.specs.declared.Motion.the-variants.{Idle}
 use Rattle.dimmer.proofs.Laws.{fade-ends, fade-runs}
-use Rattle.lamp.specs.Lamp.{bit, bitColour, colour, fresh as freshLamp}
+use Rattle.lamp.specs.Lamp.{bit, bitColour, blinked, colour, fresh as freshLamp}
 use Rattle.lamp.specs.Promises.{blinkAfter, versionAfter}
 use Rattle.lamp.specs.declared.Lamp.{Lamp}
-use Rattle.lamp.proofs.Laws.{skip-none, version-shows}
+use Rattle.lamp.proofs.Laws.{output-plain, skip-none, version-shows}
 use Rattle.packet.specs.Layout.{firstByte, headerIn, reservedIn, secondByte, total, wholeIn}
 use Rattle.packet.specs.Reading.{messageOf, readOf}
 use Rattle.packet.specs.declared.Frame.the-variants as frame
@@ -219,18 +219,19 @@ module _ (s : Switch Plain) (room : ℕ) (bytes : List ℕ) (enough : 48 ≤ roo
   goto-mode = ap (λ (j : Asked). settled (s .password) j .next .plain .core .mode) goto-job
 
   goto-rests : AtRest (respond s goto .next)
-  unfolding Product.respond obeying answering obeyed settled
-  goto-rests = rest-as s (respond s goto .next) (ap (λ (j : Asked). settled (s .password) j .next .plain .paddles) goto-job) (dark .rests)
+  unfolding Product.respond obeying answering obeyed signalled performed setting unwritten settled blinked
+  goto-rests = rest-as s (respond s goto .next) (ap (λ (j : Asked). settled (s .password) j .next .plain .paddles) goto-job)
+      (ap (λ (j : Asked). settled (s .password) j .next .plain .core .lamp .flash) goto-job ∙ dark .rests .steady) (dark .rests)
 
   goto-shows : Shows (modeIn s) (set-dimmer .level) [] (respond s goto .shown)
-  unfolding Product.respond obeying answering obeyed signalled performed setting unwritten settled replyTo replied replyMessage enveloped answerOf answerWith
-  goto-shows = subst (λ (j : Asked). Shows (modeIn s) (set-dimmer .level) [] (settled (s .password) j .shown)) (sym goto-job) record { number = refl; mode = refl; level = refl; counted = refl; sent = refl }
+  unfolding Product.respond obeying answering obeyed signalled performed setting unwritten settled replyTo replied replyMessage enveloped answerOf answerWith blinked
+  goto-shows = subst (λ (j : Asked). Shows (modeIn s) (set-dimmer .level) [] (settled (s .password) j .shown)) (sym goto-job) record { number = refl; mode = refl; level = refl; output = output-plain _ (set-dimmer .level) (dark .rests .steady); counted = refl; sent = refl }
 
   goto-ticks : (n : ℕ) (to : Step) → tickedBy n set-dimmer .level ≡ to → 1 ≤ n → Shows (modeIn s) to [] (nthTick (respond s goto .next) n)
   goto-ticks n to e some =
       let t = respond s goto .next in
       shows-as (nthTick t n) _ _ _ _ _ _ goto-mode (ap (λ (d : Dimmer). tickedBy n d .level) goto-dimmer ∙ e) refl
-      (left-to-itself t n (goto-rests .two) (rest-is-silent t n goto-rests) some)
+      (left-to-itself t n (goto-rests .two) (goto-rests .steady) (rest-is-silent t n goto-rests) some)
 
   -- A capable dimmer takes the level and the rate as they are asked for.
   goto-moves : level ≤ 100 → rate ≤ 15
@@ -258,9 +259,10 @@ module _ (s : Switch Plain) (room : ℕ) (bytes : List ℕ) (enough : 48 ≤ roo
 -- ---- (i): the colours after a start
 
 start-rests : (image : List ℕ) → AtRest (startedFrom image)
-unfolding startedFrom woken paddleOf down
+unfolding startedFrom woken paddleOf down started
 start-rests image = record {
   two = refl;
+  steady = refl;
   up = λ contact. ap (λ (p : Paddle). p .local || p .slave) (two-fresh (contact % 2));
   untapped = λ contact. ap (λ (p : Paddle). p .taps) (two-fresh (contact % 2));
 }

@@ -8,7 +8,7 @@ use borrow.Author.Tests.{lt-ltb, ne-eqb}
 use lib.Dec.{eqb}
 use lib.ListN.{getD, length, set}
 use Rattle.words.specs.Words.{if_then_else_}
-use Rattle.words.proofs.Laws.{two-ways}
+use Rattle.words.proofs.Laws.{both, two-ways}
 use Rattle.timers.specs.Timers.{less, lessBy}
 use Rattle.units.specs.Units.{percentOf}
 use Rattle.units.specs.declared.Percent.{Percent}
@@ -24,6 +24,9 @@ use Rattle.dimmer.specs.Dimmer.{dimmer, optionsOf, stopped, stoppedFrom, ticked
 use Rattle.dimmer.specs.declared.Dimmer.{Dimmer}
 use Rattle.dimmer.specs.declared.Motion.{Motion}
 use Rattle.dimmer.specs.declared.Motion.the-variants.{Idle, Fading, Blinking}
+use Rattle.lamp.specs.Lamp.{blinked}
+use Rattle.lamp.specs.declared.Lamp.{Lamp}
+use Rattle.lamp.proofs.Laws.{output-plain}
 use Rattle.paddle.specs.Paddle.{closing, counted, down, fresh, gesture, gestureUp, left, next, none, pressed, released}
 use Rattle.paddle.specs.Promises.{due, gestureFor, past, pressFor, raised, skip, ticks, wait, waitFor}
 use Rattle.paddle.specs.declared.Contact.{Contact}
@@ -47,9 +50,9 @@ use Rattle.switch.specs.Events.{begun, finished, gestureAt, kindOf, paddleAt, p
 use Rattle.switch.specs.Code.{quiet}
 use Rattle.switch.specs.Respond.{respond, wallSwitch}
 use Rattle.switch.proofs.Quick.{plainly, quick-press, quick-release, turned-nothing}
-use Rattle.promises.specs.Ticking.{AtRest, IsHold, IsNothing, IsTaps, Shows, dimmerBy, dimmerIn, modeIn, nthTick, packetsBy, pressOf, runOf, ticksOf, with48}
+use Rattle.promises.specs.Ticking.{AtRest, IsHold, IsNothing, IsTaps, Shows, Steady, dimmerBy, dimmerIn, modeIn, nthTick, packetsBy, pressOf, runOf, ticksOf, with48}
 use Rattle.promises.proofs.Jobs.{release-job, tick-job}
-use Rattle.promises.proofs.Ticks.{Agrees, left-to-itself, plainly-shows, quiet-tick, run-joined, run-more, save-agrees, shows-as, throughout-joined, ticks-shift, untapped, up-untapped}
+use Rattle.promises.proofs.Ticks.{Agrees, left-to-itself, plainly-shows, quiet-tick, run-joined, run-more, save-agrees, shows-as, steady-next, throughout-joined, ticks-shift, untapped, up-untapped}
 
 -- ---- registers that differ in the saved level alone
 
@@ -95,31 +98,37 @@ unfolding announced gestureMessage
 same-announced all now same mode i g p =
     rw (same-transmit all now same i, same 0x00 (λ e. omega arith), same 0x01 (λ e. omega arith), same-chosen all now same)
 
--- A gesture that writes nothing and leaves the mode: one tap, Hold and Release in every mode, two taps in Normal.
-abbrev Plainly : Mode → Gesture → Type 0
-Plainly mode g = (writes mode g ≡ Unwritten) × (leads mode g ≡ mode)
+-- A gesture that writes nothing and leaves mode and lamp: one tap, Hold and Release in every mode, two taps in Normal.
+record Plainly (mode : Mode) (g : Gesture) : Type 0 where
+  silent : writes mode g ≡ Unwritten
+  stays : leads mode g ≡ mode
+  lamp : (all : List ℕ) (i : ℕ) (c : Core) → actedIn mode all i g c .core .lamp ≡ c .lamp
 
 one-tap : (mode : Mode) → Plainly mode (Taps 1)
-unfolding writes leads
-one-tap Normal = (refl, refl)
-one-tap Setup = (refl, refl)
-one-tap Factory = (refl, refl)
+unfolding writes leads actedIn inNormal inSetup inFactory tapsInNormal tapsInSetup tapsInFactory doing setting unwritten
+one-tap Normal = record { silent = refl; stays = refl; lamp = λ all i c. refl }
+one-tap Setup = record { silent = refl; stays = refl; lamp = λ all i c. refl }
+one-tap Factory = record { silent = refl; stays = refl; lamp = λ all i c. refl }
 
 two-taps : (mode : Mode) → mode ≡ Normal → Plainly mode (Taps 2)
-unfolding writes leads
-two-taps mode normal = rw normal (refl, refl)
+unfolding writes leads actedIn inNormal tapsInNormal doing setting unwritten
+two-taps mode normal = subst (λ (m : Mode). Plainly m (Taps 2)) (sym normal) record { silent = refl; stays = refl; lamp = λ all i c. refl }
+
+held-lamp : (all : List ℕ) (i : ℕ) (c : Core) → holding all i c .lamp ≡ c .lamp
+unfolding holding setting
+held-lamp all i c = both (λ (e : Core). e .lamp ≡ c .lamp) (optionsOf (dimmingIn all) .capable) refl refl
 
 holding-on : (mode : Mode) → Plainly mode Hold
-unfolding writes leads
-holding-on Normal = (refl, refl)
-holding-on Setup = (refl, refl)
-holding-on Factory = (refl, refl)
+unfolding writes leads actedIn inNormal inSetup inFactory unwritten
+holding-on Normal = record { silent = refl; stays = refl; lamp = held-lamp }
+holding-on Setup = record { silent = refl; stays = refl; lamp = λ all i c. refl }
+holding-on Factory = record { silent = refl; stays = refl; lamp = held-lamp }
 
 letting-go : (mode : Mode) → Plainly mode Release
-unfolding writes leads
-letting-go Normal = (refl, refl)
-letting-go Setup = (refl, refl)
-letting-go Factory = (refl, refl)
+unfolding writes leads actedIn inNormal inSetup inFactory stopping unwritten
+letting-go Normal = record { silent = refl; stays = refl; lamp = λ all i c. refl }
+letting-go Setup = record { silent = refl; stays = refl; lamp = λ all i c. refl }
+letting-go Factory = record { silent = refl; stays = refl; lamp = λ all i c. refl }
 
 -- What a gesture does to the dimmer hangs on the mode, the dimmer and the other registers.
 module _ (all now : List ℕ) (same : Agrees all now) (i : ℕ) (c d : Core) (alike : d .dimmer ≡ c .dimmer) where
@@ -287,29 +296,39 @@ held-in-setup all i c setup = ap (λ (m : Mode). actedIn m all i Hold c .core .d
 
 -- ---- an event of the paddles, once they have had their turn
 
-signalled-dimmer : (sent : List (List ℕ)) (c : Core) → (signalledBy sent c .dimmer ≡ c .dimmer) × (signalledBy sent c .mode ≡ c .mode)
-unfolding signalledBy signalled
-signalled-dimmer [] c = (refl, refl)
-signalled-dimmer (p ∷ sent) c = (refl, refl)
+record Kept (c now : Core) : Type 0 where
+  dimmer : now .dimmer ≡ c .dimmer
+  mode : now .mode ≡ c .mode
+  flash : now .lamp .flash ≡ c .lamp .flash
+
+signalled-keeps : (sent : List (List ℕ)) (c : Core) → Kept c (signalledBy sent c)
+unfolding signalledBy signalled blinked
+signalled-keeps [] c = record { dimmer = refl; mode = refl; flash = refl }
+signalled-keeps (p ∷ sent) c = record { dimmer = refl; mode = refl; flash = refl }
 
 module _ (s : Switch Plain) (m : Moment) (ps : List Paddle) where
-  finished-shows : Shows (m .core .mode) (m .core .dimmer .level) (m .sent) (settled (s .password) (finished m ps) .shown)
+  finished-shows : m .core .lamp .flash ≡ 0 → Shows (m .core .mode) (m .core .dimmer .level) (m .sent) (settled (s .password) (finished m ps) .shown)
   unfolding settled finished answerOf answerWith
-  finished-shows = record {
+  finished-shows steady = record {
     number = refl;
-    mode = signalled-dimmer (m .sent) (m .core) .1;
-    level = ap (λ (d : Dimmer). d .level) (signalled-dimmer (m .sent) (m .core) .0);
+    mode = signalled-keeps (m .sent) (m .core) .mode;
+    level = ap (λ (d : Dimmer). d .level) (signalled-keeps (m .sent) (m .core) .dimmer);
+    output = output-plain _ _ (signalled-keeps (m .sent) (m .core) .flash ∙ steady) ∙ ap (λ (d : Dimmer). d .level) (signalled-keeps (m .sent) (m .core) .dimmer);
     counted = refl;
     sent = refl;
   }
 
   finished-dimmer : dimmerIn (settled (s .password) (finished m ps) .next) ≡ m .core .dimmer
   unfolding settled finished
-  finished-dimmer = signalled-dimmer (m .sent) (m .core) .0
+  finished-dimmer = signalled-keeps (m .sent) (m .core) .dimmer
 
   finished-mode : settled (s .password) (finished m ps) .next .plain .core .mode ≡ m .core .mode
   unfolding settled finished
-  finished-mode = signalled-dimmer (m .sent) (m .core) .1
+  finished-mode = signalled-keeps (m .sent) (m .core) .mode
+
+  finished-steady : m .core .lamp .flash ≡ 0 → Steady (settled (s .password) (finished m ps) .next)
+  unfolding settled finished
+  finished-steady steady = signalled-keeps (m .sent) (m .core) .flash ∙ steady
 
   finished-paddles : settled (s .password) (finished m ps) .next .plain .paddles ≡ ps
   unfolding settled finished
@@ -321,11 +340,12 @@ module _ (s : Switch Plain) (m : Moment) (ps : List Paddle) where
 
 -- ---- a switch as another was
 
--- In mode and registers as s, but for the saved level; with this dimmer and these paddles.
+-- In mode and registers as s, but for the saved level; with this dimmer and these paddles, and no flash.
 record Like (s : Switch Plain) (d : Dimmer) (i : ℕ) (own other : Paddle) (t : Switch Plain) : Type 0 where
   paddles : t .plain .paddles ≡ side i own other
   mode : t .plain .core .mode ≡ s .plain .core .mode
   has : dimmerIn t ≡ d
+  steady : Steady t
   registers : Agrees (s .plain .registers) (t .plain .registers)
 
 -- Events of which nothing comes, and the switch after them.
@@ -345,7 +365,7 @@ module _ (s : Switch Plain) (d : Dimmer) (i : ℕ) (own other : Paddle) (t : Swi
   unfolding run
   one-passed e p w same like = record {
     now = subst (Like s d i own other) (sym (ap (λ a. a .next) same)) like;
-    unmoved = (shows-as (respond t e .shown) _ _ _ _ _ _ (like .mode) (ap (λ (x : Dimmer). x .level) (like .has)) refl (plainly-shows t e p w same), tt);
+    unmoved = (shows-as (respond t e .shown) _ _ _ _ _ _ (like .mode) (ap (λ (x : Dimmer). x .level) (like .has)) refl (plainly-shows t e p w same (like .steady)), tt);
   }
 
   -- A tick that completes nothing.
@@ -361,9 +381,10 @@ module _ (s : Switch Plain) (d : Dimmer) (i : ℕ) (own other : Paddle) (t : Swi
               paddles = ap (map next) (like .paddles) ∙ side-next i own other;
               mode = like .mode;
               has = level;
+              steady = steady-next (t .plain .core .lamp) (like .steady);
               registers = λ place h. save-agrees (aged (t .plain .core)) (t .plain .registers) place h ∙ like .registers place h;
             };
-        unmoved = (shows-as (respond t (with48 tick) .shown) _ _ _ _ _ _ (like .mode) (ap (λ (x : Dimmer). x .level) level) refl (plainly-shows t (with48 tick) _ _ same), tt);
+        unmoved = (shows-as (respond t (with48 tick) .shown) _ _ _ _ _ _ (like .mode) (ap (λ (x : Dimmer). x .level) level) refl (plainly-shows t (with48 tick) _ _ same (steady-next (t .plain .core .lamp) (like .steady))), tt);
       }
 
 -- A paddle that completes nothing in n ticks.
@@ -403,7 +424,7 @@ module _ (s : Switch Plain) (d : Dimmer) (contact : ℕ) (known : contact ≤ 3)
   press-passed =
       one-passed s d (paddleOf contact) (pressed (kindOf contact) own) other t (with48 (press contact)) _ _
       (quick-press (t .plain .registers) (t .plain .core) (t .plain .paddles) (t .password) 48 (omega arith) contact known)
-      (record { paddles = ap (pressedAt contact) (like .paddles) ∙ pressed-side contact own other; mode = like .mode; has = like .has; registers = like .registers })
+      (record { paddles = ap (pressedAt contact) (like .paddles) ∙ pressed-side contact own other; mode = like .mode; has = like .has; steady = like .steady; registers = like .registers })
 
   release-passed : gestureUp (kindOf contact) own ≡ Nothing → Passed s d (paddleOf contact) (released (kindOf contact) own) other t (with48 (release contact) ∷ [])
   unfolding none
@@ -411,7 +432,7 @@ module _ (s : Switch Plain) (d : Dimmer) (contact : ℕ) (known : contact ≤ 3)
       one-passed s d (paddleOf contact) (released (kindOf contact) own) other t (with48 (release contact)) _ _
       (quick-release (t .plain .registers) (t .plain .core) (t .plain .paddles) (t .password) 48 (omega arith) contact known
       (ap (λ (ps : List Paddle). none (gestureAt contact ps)) (like .paddles) ∙ ap none (gesture-side contact own other ∙ still)))
-      (record { paddles = ap (releasedAt contact) (like .paddles) ∙ released-side contact own other; mode = like .mode; has = like .has; registers = like .registers })
+      (record { paddles = ap (releasedAt contact) (like .paddles) ∙ released-side contact own other; mode = like .mode; has = like .has; steady = like .steady; registers = like .registers })
 
 -- ---- a gesture that acts
 
@@ -419,7 +440,7 @@ module _ (s : Switch Plain) (d : Dimmer) (contact : ℕ) (known : contact ≤ 3)
 module _ (p : Plain) (c : Core) (i : ℕ) (g : Gesture) (one : Plainly (c .mode) g) (E : Dimmer) (comes : acted (p .registers) i g c .core .dimmer ≡ E) where
   turned-registers : turned i g (begun p c) .registers ≡ p .registers
   unfolding turned after applied
-  turned-registers = ap (λ (w : Write). applied w [] (p .registers)) (gesture-writes (p .registers) i g c ∙ one .0)
+  turned-registers = ap (λ (w : Write). applied w [] (p .registers)) (gesture-writes (p .registers) i g c ∙ one .silent)
 
   turned-dimmer : turned i g (begun p c) .core .dimmer ≡ E
   unfolding turned after
@@ -427,7 +448,11 @@ module _ (p : Plain) (c : Core) (i : ℕ) (g : Gesture) (one : Plainly (c .mode)
 
   turned-mode : turned i g (begun p c) .core .mode ≡ c .mode
   unfolding turned after
-  turned-mode = gesture-leads (p .registers) i g c ∙ one .1
+  turned-mode = gesture-leads (p .registers) i g c ∙ one .stays
+
+  turned-steady : c .lamp .flash ≡ 0 → turned i g (begun p c) .core .lamp .flash ≡ 0
+  unfolding turned after acted
+  turned-steady steady = ap (λ (l : Lamp). l .flash) (one .lamp (p .registers) i c) ∙ steady
 
   turned-sent : (all : List ℕ) (mode : Mode) → Agrees all (p .registers) → c .mode ≡ mode → turned i g (begun p c) .sent ≡ announced all mode i g (percentOf (E .level))
   unfolding turned after
@@ -457,6 +482,7 @@ module _ (s : Switch Plain) (d : Dimmer) (contact : ℕ) (own other : Paddle) (t
       ap (settled (t .password)) (tick-job (t .plain) 48 (omega arith))
       ∙ ap (λ (m : Moment). settled (t .password) (finished (after (saved (m .core)) m) (map next (t .plain .paddles)))) turn in
       let last = after (saved (m .core)) m in
+      let steady = turned-steady (t .plain) c i g one E comes (steady-next (t .plain .core .lamp) (like .steady)) in
       let ps = map next (t .plain .paddles) in
       let sent = turned-sent (t .plain) c i g one E comes (s .plain .registers) (s .plain .core .mode) (like .registers) (like .mode) in
       record {
@@ -465,11 +491,12 @@ module _ (s : Switch Plain) (d : Dimmer) (contact : ℕ) (own other : Paddle) (t
               paddles = finished-paddles t last ps ∙ ap (map next) (like .paddles) ∙ side-next i own other;
               mode = finished-mode t last ps ∙ turned-mode (t .plain) c i g one E comes ∙ like .mode;
               has = finished-dimmer t last ps ∙ turned-dimmer (t .plain) c i g one E comes;
+              steady = finished-steady t last ps steady;
               registers = λ place h. ap (λ (l : List ℕ). getD l place 0) (finished-registers t last ps) ∙ save-agrees (m .core) (m .registers) place h
                   ∙ ap (λ (l : List ℕ). getD l place 0) (turned-registers (t .plain) c i g one E comes) ∙ like .registers place h;
             };
         shows = subst (λ a. Shows (modeIn s) (E .level) (announced (s .plain .registers) (modeIn s) i g (percentOf (E .level))) (a .shown)) (sym same)
-            (shows-as _ _ _ _ _ _ _ (turned-mode (t .plain) c i g one E comes ∙ like .mode) (ap (λ (x : Dimmer). x .level) (turned-dimmer (t .plain) c i g one E comes)) sent (finished-shows t last ps));
+            (shows-as _ _ _ _ _ _ _ (turned-mode (t .plain) c i g one E comes ∙ like .mode) (ap (λ (x : Dimmer). x .level) (turned-dimmer (t .plain) c i g one E comes)) sent (finished-shows t last ps steady));
       }
 
   release-acts : contact ≤ 3 → acted (t .plain .registers) (paddleOf contact) g (t .plain .core) .core .dimmer ≡ E → gestureUp (kindOf contact) own ≡ g
@@ -480,6 +507,7 @@ module _ (s : Switch Plain) (d : Dimmer) (contact : ℕ) (own other : Paddle) (t
       let c = t .plain .core in
       let m = turned i g (begun (t .plain) c) in
       let ps = releasedAt contact (t .plain .paddles) in
+      let steady = turned-steady (t .plain) c i g one E comes (like .steady) in
       let up : gestureAt contact (t .plain .paddles) ≡ g = ap (gestureAt contact) (like .paddles) ∙ gesture-side contact own other ∙ mine in
       let same : respond t (with48 (release contact)) ≡ settled (t .password) (finished m ps) =
       ap (settled (t .password)) (release-job (t .plain) 48 contact (omega arith) known)
@@ -491,10 +519,11 @@ module _ (s : Switch Plain) (d : Dimmer) (contact : ℕ) (own other : Paddle) (t
               paddles = finished-paddles t m ps ∙ ap (releasedAt contact) (like .paddles) ∙ released-side contact own other;
               mode = finished-mode t m ps ∙ turned-mode (t .plain) c i g one E comes ∙ like .mode;
               has = finished-dimmer t m ps ∙ turned-dimmer (t .plain) c i g one E comes;
+              steady = finished-steady t m ps steady;
               registers = λ place h. ap (λ (l : List ℕ). getD l place 0) (finished-registers t m ps ∙ turned-registers (t .plain) c i g one E comes) ∙ like .registers place h;
             };
         shows = subst (λ a. Shows (modeIn s) (E .level) (announced (s .plain .registers) (modeIn s) i g (percentOf (E .level))) (a .shown)) (sym same)
-            (shows-as _ _ _ _ _ _ _ (turned-mode (t .plain) c i g one E comes ∙ like .mode) (ap (λ (x : Dimmer). x .level) (turned-dimmer (t .plain) c i g one E comes)) sent (finished-shows t m ps));
+            (shows-as _ _ _ _ _ _ _ (turned-mode (t .plain) c i g one E comes ∙ like .mode) (ap (λ (x : Dimmer). x .level) (turned-dimmer (t .plain) c i g one E comes)) sent (finished-shows t m ps steady));
       }
 
 -- ---- the paddles of a press
@@ -549,7 +578,7 @@ like-left : (s : Switch Plain) (E : Dimmer) (i : ℕ) (own other : Paddle) (t : 
     → (m : ℕ) → 1 ≤ m → Shows (modeIn s) (tickedBy m E .level) [] (nthTick t m)
 like-left s E i own other t like a b m some =
     shows-as (nthTick t m) _ _ _ _ _ _ (like .mode) (ap (λ (d : Dimmer). tickedBy m d .level) (like .has)) refl
-    (left-to-itself t m (ap length (like .paddles) ∙ side-two i own other)
+    (left-to-itself t m (ap length (like .paddles) ∙ side-two i own other) (like .steady)
     (λ contact k h. ap (λ (ps : List Paddle). gesture (ticks k (paddleAt contact ps))) (like .paddles)
     ∙ side-each (λ (p : Paddle). gesture (ticks k p) ≡ Nothing) i own other (a k) (b k) (paddleOf contact) (below-two contact)) some)
 
@@ -641,6 +670,7 @@ module _ (s : Switch Plain) (contact : ℕ) (known : contact ≤ 3) (idle : dimm
           paddles = sided (s .plain .paddles) (rest .two) i (below-two contact) ∙ ap₂ (side i) (up-untapped mine (rest .up contact) (rest .untapped contact)) (up-untapped theirs up none);
           mode = refl;
           has = refl;
+          steady = rest .steady;
           registers = λ place h. refl;
         }
 

@@ -4,10 +4,11 @@ use mathlib.Core.List.{List, [], _∷_, _++_, map}
 use mathlib.Core.Path.{_≡_, refl, sym, ap, ap₂, _∙_, subst}
 use Prim.Native.Nat.{ℕ, zero, suc, _+_, _-_, _%_, _<_, _≤_}
 use native.Mathlib.Omega.{arith}
+use borrow.Author.Tests.{le-ltb}
 use lib.ListN.{getD, length}
 use lib.Seq.{getD-set-other}
 use Rattle.words.proofs.Laws.{both}
-use Rattle.timers.specs.Timers.{beats, turned as turnedAround, turnedBy}
+use Rattle.timers.specs.Timers.{beats, turned as turnedAround, less, lessBy, turnedBy}
 use Rattle.timers.proofs.Laws.{turned-more, turned-none}
 use Rattle.units.specs.Units.{percentOf}
 use Rattle.units.specs.declared.Step.{Step}
@@ -21,7 +22,8 @@ use Rattle.dimmer.specs.Dimmer.{dimmer, ticked, tickedBy}
 use Rattle.dimmer.proofs.Laws.{ticked-more, ticked-none}
 use Rattle.lamp.specs.Lamp.{next as lampTicked}
 use Rattle.lamp.specs.Promises.{skip as lampAfter}
-use Rattle.lamp.proofs.Laws.{skip-more, skip-none}
+use Rattle.lamp.specs.declared.Lamp.{Lamp}
+use Rattle.lamp.proofs.Laws.{output-plain, skip-more, skip-none}
 use Rattle.paddle.specs.Paddle.{down, fresh, gesture, next, none}
 use Rattle.paddle.specs.Promises.{due, raised, ticks, wait, waitFor}
 use Rattle.paddle.specs.declared.Gesture.the-variants.{Nothing}
@@ -35,11 +37,11 @@ use Rattle.acts.specs.Core.{aged, core, saveTicks, saved, toSave}
 use Rattle.acts.specs.declared.Core.{Core}
 use Rattle.switch.specs.Switch.{Event, Plain, Shown, answerOf, answerWith, event, plain, tally, tick}
 use Rattle.switch.specs.Paddles.{after, followed, over}
-use Rattle.switch.specs.Events.{begun, finished, paddleAt, paddleOf, signalledBy, ticking}
+use Rattle.switch.specs.Events.{begun, finished, job, paddleAt, paddleOf, signalledBy, ticking}
 use Rattle.switch.specs.Code.{quiet}
 use Rattle.switch.specs.Respond.{respond, wallSwitch}
 use Rattle.switch.proofs.Quick.{plainly, turns-quiet}
-use Rattle.promises.specs.Ticking.{AtRest, ByItself, LeftToItself, RestIsSilent, Shows, Silent, dimmerIn, modeIn, nextTick, nthTick, runOf, ticksOf, with48}
+use Rattle.promises.specs.Ticking.{AtRest, ByItself, LeftToItself, RestIsSilent, RoomToSpare, Shows, Silent, Steady, dimmerIn, modeIn, nextTick, nthTick, runOf, ticksOf, with48}
 use Rattle.promises.proofs.Jobs.{tick-job}
 
 -- ---- runs of ticks
@@ -106,13 +108,14 @@ quiet-tick s room enough still =
     rw (tick-job (s .plain) room enough, turns-quiet (s .plain .paddles) 0 (begun (s .plain) (aged (s .plain .core))) still, save-keeps (aged (s .plain .core)))
 
 -- What such an event shows.
-pub plainly-shows : (s : Switch Plain) (e : Event) (p : Plain) (w : Password) → respond s e ≡ plainly p w
+pub plainly-shows : (s : Switch Plain) (e : Event) (p : Plain) (w : Password) → respond s e ≡ plainly p w → p .core .lamp .flash ≡ 0
     → Shows (p .core .mode) (p .core .dimmer .level) [] (respond s e .shown)
 unfolding answerOf answerWith
-plainly-shows s e p w same = record {
+plainly-shows s e p w same steady = record {
   number = ap (λ a. a .shown .answer .number) same;
   mode = ap (λ a. a .shown .answer .mode) same;
   level = ap (λ a. a .shown .answer .level) same;
+  output = ap (λ a. a .shown .answer .output) same ∙ output-plain (p .core .lamp) (p .core .dimmer .level) steady;
   counted = ap (λ a. a .shown .answer .sent) same;
   sent = ap (λ a. a .shown .sent) same;
 }
@@ -121,7 +124,7 @@ plainly-shows s e p w same = record {
 pub shows-as : (x : Shown) (mode kind : Mode) (level to : Step) (sent packets : List (List ℕ)) → mode ≡ kind → level ≡ to → sent ≡ packets
     → Shows mode level sent x → Shows kind to packets x
 shows-as x mode kind level to sent packets e f g shows =
-    record { number = shows .number; mode = shows .mode ∙ e; level = shows .level ∙ f; counted = shows .counted ∙ ap tally g; sent = shows .sent ∙ g }
+    record { number = shows .number; mode = shows .mode ∙ e; level = shows .level ∙ f; output = shows .output ∙ f; counted = shows .counted ∙ ap tally g; sent = shows .sent ∙ g }
 
 -- ---- many of them
 
@@ -214,11 +217,20 @@ silent-quiet n s two silent k h = quiet-each k (s .plain .paddles) (λ i under. 
 pub nth : (C : Shown → Type 0) (n : ℕ) (s : Switch Plain) → C (nextTick (runOf s (ticksOf n))) → C (nthTick s (suc n))
 nth C n s shown = let e : suc n - 1 ≡ n = omega arith in subst (λ (k : ℕ). C (nextTick (runOf s (ticksOf k)))) (sym e) shown
 
+-- A flash that is over stays over.
+pub steady-next : (l : Lamp) → l .flash ≡ 0 → lampTicked l .flash ≡ 0
+unfolding lampTicked less
+steady-next l over = omega arith
+
+no-flash : (n : ℕ) (l : Lamp) → l .flash ≡ 0 → lampAfter n l .flash ≡ 0
+unfolding lampAfter lessBy
+no-flash n l over = omega arith
+
 pub left-to-itself : LeftToItself
-left-to-itself s zero two silent some = absurd (omega arith)
-left-to-itself s (suc n) two silent some =
+left-to-itself s zero two steady silent some = absurd (omega arith)
+left-to-itself s (suc n) two steady silent some =
     nth (Shows (modeIn s) (tickedBy (suc n) (dimmerIn s) .level) []) n s
-    (plainly-shows (runOf s (ticksOf n)) (with48 tick) (plainAfter (suc n) (s .plain)) (s .password) (tick-after n s (silent-quiet (suc n) s two silent)))
+    (plainly-shows (runOf s (ticksOf n)) (with48 tick) (plainAfter (suc n) (s .plain)) (s .password) (tick-after n s (silent-quiet (suc n) s two silent)) (no-flash (suc n) (s .plain .core .lamp) steady))
 
 -- A paddle that is up with no tap counted.
 pub untapped : (k hold gap : ℕ) → gesture (ticks k (raised hold gap 0)) ≡ Nothing
@@ -228,9 +240,10 @@ untapped k hold gap = paddle.quiet k (raised hold gap 0) refl
 pub up-untapped : (p : Paddle) → down p ≡ false → p .taps ≡ 0 → p ≡ raised (p .hold) (p .gap) 0
 up-untapped p up none = paddle.up-raised p up ∙ ap (λ (taps : ℕ). raised (p .hold) (p .gap) taps) none
 
--- Paddles that are left as they were are still at rest.
-pub rest-as : (s t : Switch Plain) → t .plain .paddles ≡ s .plain .paddles → AtRest s → AtRest t
-rest-as s t same rest = record {
+-- A switch whose paddles are left as they were is still at rest, where it does not flash.
+pub rest-as : (s t : Switch Plain) → t .plain .paddles ≡ s .plain .paddles → Steady t → AtRest s → AtRest t
+rest-as s t same steady rest = record {
+  steady = steady;
   two = ap length same ∙ rest .two;
   up = λ contact. ap (λ (ps : List Paddle). down (paddleAt contact ps)) same ∙ rest .up contact;
   untapped = λ contact. ap (λ (ps : List Paddle). paddleAt contact ps .taps) same ∙ rest .untapped contact;
@@ -240,6 +253,10 @@ pub rest-is-silent : RestIsSilent
 rest-is-silent s n rest contact k h =
     ap (λ (p : Paddle). gesture (ticks k p)) (up-untapped _ (rest .up contact) (rest .untapped contact)) ∙ untapped k _ _
 
+room-to-spare : RoomToSpare
+unfolding Product.respond job
+room-to-spare s room d enough = rw (le-ltb room 48 enough)
+
 -- All of it.
 pub by-itself : ByItself
-by-itself = record { left = left-to-itself; rest = rest-is-silent }
+by-itself = record { left = left-to-itself; rest = rest-is-silent; room = room-to-spare }

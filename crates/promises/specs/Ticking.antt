@@ -34,6 +34,10 @@ use Rattle.switch.specs.Respond.{respond, wallSwitch}
 abbrev pub with48 : Deed → Event
 with48 d = event 48 d
 
+-- What is said of these holds of every longer buffer: more room makes no difference.
+abbrev pub RoomToSpare : Type 0
+RoomToSpare = (s : Switch Plain) (room : ℕ) (d : Deed) → 48 ≤ room → respond s (event room d) ≡ respond s (with48 d)
+
 unfoldable pub ticksOf : ℕ → List Event
 ticksOf zero = []
 ticksOf (suc n) = with48 tick ∷ ticksOf n
@@ -58,18 +62,23 @@ levelIn s = dimmerIn s .level
 abbrev pub modeIn : Switch Plain → Mode
 modeIn s = s .plain .core .mode
 
+-- No flash runs, as it does for 120 ticks after a mode change.
+abbrev pub Steady : Switch Plain → Type 0
+Steady s = s .plain .core .lamp .flash ≡ 0
+
 -- ---- what is seen
 
--- An event is answered 0, shows this mode and this level, and sends these packets.
+-- An event is answered 0, shows this mode, this level and the same output, and sends these packets.
 pub record Shows (kind : Mode) (to : Step) (packets : List (List ℕ)) (x : Shown) : Type 0 where
   pub number : x .answer .number ≡ 0
   pub mode : x .answer .mode ≡ kind
   pub level : x .answer .level ≡ to
+  pub output : x .answer .output ≡ to
   pub counted : x .answer .sent ≡ tally packets
   pub sent : x .sent ≡ packets
 
--- Nothing comes of some events: each is answered 0, shows mode and level as they stood before them, and sends nothing. (The lamp goes by
--- its own rules.)
+-- Nothing comes of some events: each is answered 0, shows mode, level and output as they stood before them, and sends nothing. The lamp goes
+-- by its own rules.
 abbrev pub Unmoved : Switch Plain → List Event → Type 0
 Unmoved s es = Throughout (machine wallSwitch) (λ t e. Shows (modeIn s) (levelIn s) [] (respond t e .shown)) s es
 
@@ -90,12 +99,13 @@ Silent n s = (contact k : ℕ) → k < n → gesture (ticks k (paddleAt contact 
 -- blinks.
 abbrev pub LeftToItself : Type 0
 LeftToItself =
-    (s : Switch Plain) (n : ℕ) → length (s .plain .paddles) ≡ 2 → Silent n s → 1 ≤ n
+    (s : Switch Plain) (n : ℕ) → length (s .plain .paddles) ≡ 2 → Steady s → Silent n s → 1 ≤ n
     → Shows (modeIn s) (tickedBy n (dimmerIn s) .level) [] (nthTick s n)
 
--- A switch with two paddles, both up and with no tap counted, as every start leaves them.
+-- A switch with two paddles, both up and with no tap counted, and no flash, as every start leaves it.
 pub record AtRest (s : Switch Plain) : Type 0 where
   pub two : length (s .plain .paddles) ≡ 2
+  pub steady : Steady s
   pub up : (contact : ℕ) → down (paddleAt contact (s .plain .paddles)) ≡ false
   pub untapped : (contact : ℕ) → paddleAt contact (s .plain .paddles) .taps ≡ 0
 
@@ -173,3 +183,4 @@ blinks (c ∷ cs) = repeated 60 c ++ (repeated 60 Black ++ blinks cs)
 pub record ByItself : Type 0 where
   pub left : LeftToItself
   pub rest : RestIsSilent
+  pub room : RoomToSpare
