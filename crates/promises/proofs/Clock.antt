@@ -17,7 +17,7 @@ use Rattle.registers.proofs.Laws.{password-back, registers-back}
 use Rattle.switch.specs.Switch.{Plain, event, restart, tick}
 use Rattle.switch.specs.Events.{doing, finished, job, paddleOf, restarting, ticking, woken}
 use Rattle.switch.specs.Respond.{respond, startedFrom}
-use Rattle.promises.specs.Cases.{runOf, ticksOf, with48}
+use Rattle.promises.specs.Ticking.{runOf, ticksOf, with48}
 use Rattle.promises.specs.Clock.{Clock, RestartForgets, RestartForgetsForGood, RestartIsStart, TicksBeforeAPress}
 use Rattle.promises.proofs.Cases.{next-at, ticks-shift}
 

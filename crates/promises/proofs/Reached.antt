@@ -25,7 +25,7 @@ use Rattle.switch.specs.Switch.{Event, Plain, press, release, tick}
 use Rattle.switch.specs.Events.{begun, doing, finished, gestureAt, job, kindOf, known, paddleAt, paddleOf, pressedAt, pressing, releasedAt, releasing, signalledBy, ticking, woken}
 use Rattle.switch.specs.Respond.{respond, startedFrom}
 use Rattle.promises.specs.Modes.{modeFor}
-use Rattle.promises.specs.Cases.{pressOf, runOf, ticksOf, with48}
+use Rattle.promises.specs.Ticking.{pressOf, runOf, ticksOf, with48}
 use Rattle.promises.specs.Passing.{BothClose, Passing, ReachedByTaps, Reaches, alone, around, throughToFactory, throughToNormal, withOne, withTwo}
 use Rattle.promises.proofs.Cases.{run-joined, ticks-shift}
 use Rattle.promises.proofs.Modes.{finds-modes, signalled-mode, tick-mode, turned-mode, up-leads}

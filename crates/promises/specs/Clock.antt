@@ -9,7 +9,7 @@ use Rattle.switch.specs.Switch.{Event, Plain, event, restart}
 use Rattle.switch.specs.Events.{paddleAt}
 use Rattle.switch.specs.Respond.{respond, startedFrom}
 use Rattle.promises.specs.Bounds.{Sane}
-use Rattle.promises.specs.Cases.{paddleAfter, runOf, ticksOf}
+use Rattle.promises.specs.Ticking.{paddleAfter, runOf, ticksOf}
 use Rattle.promises.specs.Demand3.{imageIn}
 
 -- "Start and restart": a restarted switch is the one that starts from its own image, the one more in 0xFC counted in both.

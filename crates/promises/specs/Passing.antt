@@ -26,7 +26,7 @@ use Rattle.switch.specs.Switch.{Event, Plain, event, press, release, tick}
 use Rattle.switch.specs.Respond.{respond, startedFrom}
 use Rattle.promises.specs.Alters.{byteAt}
 use Rattle.promises.specs.Bounds.{Sane}
-use Rattle.promises.specs.Cases.{pressOf, runOf, ticksOf, with48}
+use Rattle.promises.specs.Ticking.{pressOf, runOf, ticksOf, with48}
 use Rattle.promises.specs.Demand3.{Outside}
 use Rattle.promises.specs.Modes.{Closes, modeAt}
 use Rattle.promises.specs.Opening.{Enters}
