@@ -1,16 +1,18 @@
--- Ticks of a switch: one in which no paddle completes a gesture, many of them in closed form, and one in which one paddle acts.
-use mathlib.Core.Bool.{true, false}
+-- Ticks of a switch in which no paddle completes a gesture: one of them, many of them in closed form, and what they show.
+use mathlib.Core.Bool.{Bool, true, false}
 use mathlib.Core.List.{List, [], _∷_, _++_, map}
 use mathlib.Core.Path.{_≡_, refl, sym, ap, ap₂, _∙_, subst}
 use Prim.Native.Nat.{ℕ, zero, suc, _+_, _-_, _%_, _<_, _≤_}
 use native.Mathlib.Omega.{arith}
-use borrow.Author.Tests.{le-ltb}
+use borrow.Author.Tests.{eq-eqb, eqb-false, le-ltb, lt-ltb, ne-eqb}
+use lib.Dec.{eqb}
 use lib.ListN.{getD, length}
-use lib.Seq.{getD-set-other}
-use Rattle.words.proofs.Laws.{both}
-use Rattle.timers.specs.Timers.{beats, turned as turnedAround, less, lessBy, turnedBy}
-use Rattle.timers.proofs.Laws.{turned-more, turned-none}
+use lib.Seq.{getD-set-other, set-set}
+use Rattle.words.proofs.Laws.{both, three-ways, two-ways}
+use Rattle.timers.specs.Timers.{beats, beatsBy, turned as turnedAround, less, lessBy, turnedBy}
+use Rattle.timers.proofs.Laws.{beats-more, beats-none, turned-more, turned-none}
 use Rattle.units.specs.Units.{percentOf}
+use Rattle.units.specs.declared.Percent.{Percent}
 use Rattle.units.specs.declared.Step.{Step}
 use Rattle.vault.specs.Job.{Switch, became, change, changed, nothing, settled, switch}
 use Rattle.vault.specs.Machine.{Throughout, run, transcript}
@@ -18,14 +20,15 @@ use Rattle.vault.specs.Product
 use Rattle.vault.specs.Product.{machine}
 use Rattle.vault.specs.declared.Mode.{Mode}
 use Rattle.vault.specs.declared.Password.{Password}
-use Rattle.dimmer.specs.Dimmer.{dimmer, ticked, tickedBy}
+use Rattle.dimmer.specs.Dimmer.{ticked, tickedBy}
+use Rattle.dimmer.specs.declared.Dimmer.{Dimmer}
 use Rattle.dimmer.proofs.Laws.{ticked-more, ticked-none}
 use Rattle.lamp.specs.Lamp.{next as lampTicked}
 use Rattle.lamp.specs.Promises.{skip as lampAfter}
 use Rattle.lamp.specs.declared.Lamp.{Lamp}
 use Rattle.lamp.proofs.Laws.{output-plain, skip-more, skip-none}
 use Rattle.paddle.specs.Paddle.{down, fresh, gesture, next, none}
-use Rattle.paddle.specs.Promises.{due, raised, ticks, wait, waitFor}
+use Rattle.paddle.specs.Promises.{due, raised, skip as paddleBy, ticks, wait, waitFor}
 use Rattle.paddle.specs.declared.Gesture.the-variants.{Nothing}
 use Rattle.paddle.specs.declared.Paddle.{Paddle}
 use Rattle.paddle.proofs.Laws as paddle
@@ -41,21 +44,24 @@ use Rattle.switch.specs.Events.{begun, finished, job, paddleAt, paddleOf, signa
 use Rattle.switch.specs.Code.{quiet}
 use Rattle.switch.specs.Respond.{respond, wallSwitch}
 use Rattle.switch.proofs.Quick.{plainly, turns-quiet}
-use Rattle.promises.specs.Ticking.{AtRest, ByItself, LeftToItself, RestIsSilent, RoomToSpare, Shows, Silent, Steady, dimmerIn, modeIn, nextTick, nthTick, runOf, ticksOf, with48}
+use Rattle.promises.specs.Ticking.{AtRest, ByItself, LeftToItself, RestIsSilent, RoomToSpare, Shows, Silent, Steady, TicksAtOnce, coreBy, dimmerIn, modeIn, nextTick, nthTick, registersBy, runOf, ticksOf, with48}
 use Rattle.promises.proofs.Jobs.{tick-job}
 
 -- ---- runs of ticks
 
+-- A paddle of the list, one tick later.
 pub next-at : (l : List Paddle) (i : ℕ) → i < length l → getD (map next l) i fresh ≡ next (getD l i fresh)
 next-at [] i h = absurd (omega arith)
 next-at (p ∷ l) zero h = refl
 next-at (p ∷ l) (suc i) h = next-at l i (omega arith)
 
+-- One tick more at the front.
 pub ticks-shift : (n : ℕ) (p : Paddle) → ticks n (next p) ≡ ticks (suc n) p
 unfolding ticks
 ticks-shift zero p = refl
 ticks-shift (suc n) p = ap next (ticks-shift n p)
 
+-- Two runs, one after the other.
 pub run-joined : (s : Switch Plain) (es fs : List Event) → runOf s (es ++ fs) ≡ runOf (runOf s es) fs
 unfolding run
 run-joined s [] fs = refl
@@ -74,7 +80,7 @@ unfolding run
 throughout-joined C s [] fs a b = b
 throughout-joined C s (e ∷ es) fs a b = (a .0, throughout-joined C (respond s e .next) es fs (a .1) b)
 
--- What n ticks show, one by one.
+-- What n ticks show, if each shows what f says.
 unfoldable pub tabulated : {A : Type 0} → (ℕ → A) → ℕ → List A
 tabulated f zero = []
 tabulated f (suc n) = f 0 ∷ tabulated (λ k. f (suc k)) n
@@ -129,15 +135,12 @@ shows-as x mode kind level to sent packets e f g shows =
 -- ---- many of them
 
 -- After n ticks: the counters in closed form, the registers tick by tick.
-abbrev pub coreAfter : ℕ → Core → Core
-coreAfter n c = core (c .mode) (tickedBy n (c .dimmer)) (lampAfter n (c .lamp)) (turnedBy n saveTicks (c .save))
-
 unfoldable pub registersAfter : ℕ → Plain → List ℕ
 registersAfter zero p = p .registers
-registersAfter (suc n) p = applied (toSave (aged (coreAfter n (p .core)))) [] (registersAfter n p)
+registersAfter (suc n) p = applied (toSave (aged (coreBy n (p .core)))) [] (registersAfter n p)
 
 abbrev pub plainAfter : ℕ → Plain → Plain
-plainAfter n p = plain (registersAfter n p) (coreAfter n (p .core)) (map (ticks n) (p .paddles))
+plainAfter n p = plain (registersAfter n p) (coreBy n (p .core)) (map (ticks n) (p .paddles))
 
 no-ticks : (ps : List Paddle) → map (ticks 0) ps ≡ ps
 unfolding ticks
@@ -197,7 +200,66 @@ save-agrees c all place other =
 pub registers-agree : (n : ℕ) (p : Plain) → Agrees (p .registers) (registersAfter n p)
 unfolding registersAfter
 registers-agree zero p place other = refl
-registers-agree (suc n) p place other = save-agrees (aged (coreAfter n (p .core))) (registersAfter n p) place other ∙ registers-agree n p place other
+registers-agree (suc n) p place other = save-agrees (aged (coreBy n (p .core))) (registersAfter n p) place other ∙ registers-agree n p place other
+
+-- ---- the registers in closed form
+
+-- What was saved before is lost where the level is saved again.
+save-again : (v w : Percent) (all : List ℕ) → applied (Save w) [] (applied (Save v) [] all) ≡ applied (Save w) [] all
+unfolding applied stored
+save-again v w all = set-set all savedPlace (v .0) (w .0)
+
+-- A metronome that has beaten is within its period.
+beaten-below : (n save : ℕ) → (beatsBy n saveTicks save ≡ 0 → ⊥) → turnedBy n saveTicks save ≤ 479
+unfolding beatsBy turnedBy less
+beaten-below n save beaten =
+    two-ways save n (λ h. rw (lt-ltb save n h) (omega arith)) (λ h. absurd (beaten (rw (le-ltb save n h))))
+
+-- The registers with the level of the mth tick saved.
+abbrev savedAt : ℕ → Plain → List ℕ
+savedAt m p = applied (Save (percentOf (tickedBy m (p .core .dimmer) .level))) [] (p .registers)
+
+-- One tick more: it saves its own level, or leaves what was saved.
+module _ (n : ℕ) (p : Plain) where
+  saves : beats (turnedBy n saveTicks (p .core .save)) ≡ true → applied (toSave (aged (coreBy n (p .core)))) [] (registersBy n p) ≡ registersBy (suc n) p
+  unfolding toSave aged registersBy turnedAround less
+  saves beat =
+      let save = p .core .save in
+      let now = percentOf (ticked (tickedBy n (p .core .dimmer)) .level) in
+      let more : beatsBy (suc n) saveTicks save ≡ beatsBy n saveTicks save + 1 = beats-more n saveTicks save ∙ rw beat in
+      let around : turnedBy (suc n) saveTicks save ≡ 479 = sym (turned-more n saveTicks save) ∙ rw beat in
+      let at : suc n ≡ suc n - (479 - turnedBy (suc n) saveTicks save) = omega arith in
+      let first : applied (toSave (aged (coreBy n (p .core)))) [] (registersBy n p) ≡ applied (Save now) [] (p .registers) =
+      rw beat (both (λ (all : List ℕ). applied (Save now) [] all ≡ applied (Save now) [] (p .registers)) (eqb (beatsBy n saveTicks save) 0) refl (save-again _ now (p .registers))) in
+      let second : registersBy (suc n) p ≡ savedAt (suc n - (479 - turnedBy (suc n) saveTicks save)) p = rw (ne-eqb (beatsBy (suc n) saveTicks save) 0 (λ e. omega arith)) in
+      first ∙ ap (λ (d : Dimmer). applied (Save (percentOf (d .level))) [] (p .registers)) (ticked-more n (p .core .dimmer)) ∙ ap (λ (m : ℕ). savedAt m p) at ∙ sym second
+
+  saves-not : beats (turnedBy n saveTicks (p .core .save)) ≡ false → applied (toSave (aged (coreBy n (p .core)))) [] (registersBy n p) ≡ registersBy (suc n) p
+  unfolding toSave aged registersBy turnedAround less applied
+  saves-not quiet =
+      let save = p .core .save in
+      let left = turnedBy n saveTicks save in
+      let same : beatsBy (suc n) saveTicks save ≡ beatsBy n saveTicks save = beats-more n saveTicks save ∙ rw quiet in
+      let around : turnedBy (suc n) saveTicks save ≡ left - 1 = sym (turned-more n saveTicks save) ∙ rw quiet in
+      let some : left ≡ 0 → ⊥ = eqb-false left 0 quiet in
+      rw quiet
+      (three-ways (beatsBy n saveTicks save) 0
+      (λ h. absurd (omega arith))
+      (λ h. rw (eq-eqb (beatsBy n saveTicks save) 0 h, eq-eqb (beatsBy (suc n) saveTicks save) 0 (same ∙ h)))
+      (λ h.
+      let below : left ≤ 479 = beaten-below n save (λ e. omega arith) in
+      let at : n - (479 - left) ≡ suc n - (479 - turnedBy (suc n) saveTicks save) = omega arith in
+      rw (ne-eqb (beatsBy n saveTicks save) 0 (λ e. omega arith), ne-eqb (beatsBy (suc n) saveTicks save) 0 (λ e. omega arith)) (ap (λ (m : ℕ). savedAt m p) at)))
+
+-- So they are, tick by tick.
+registers-by : (n : ℕ) (p : Plain) → registersAfter n p ≡ registersBy n p
+unfolding registersAfter registersBy
+registers-by zero p = rw (beats-none saveTicks (p .core .save))
+registers-by (suc n) p = ap (λ (all : List ℕ). applied (toSave (aged (coreBy n (p .core)))) [] all) (registers-by n p) ∙ go (beats (turnedBy n saveTicks (p .core .save))) refl
+  where
+    go : (b : Bool) → beats (turnedBy n saveTicks (p .core .save)) ≡ b → applied (toSave (aged (coreBy n (p .core)))) [] (registersBy n p) ≡ registersBy (suc n) p
+    go true e = saves n p e
+    go false e = saves-not n p e
 
 -- ---- a switch that is left to itself
 
@@ -216,6 +278,16 @@ silent-quiet n s two silent k h = quiet-each k (s .plain .paddles) (λ i under. 
 -- The tick after n ticks is the one of number n + 1.
 pub nth : (C : Shown → Type 0) (n : ℕ) (s : Switch Plain) → C (nextTick (runOf s (ticksOf n))) → C (nthTick s (suc n))
 nth C n s shown = let e : suc n - 1 ≡ n = omega arith in subst (λ (k : ℕ). C (nextTick (runOf s (ticksOf k)))) (sym e) shown
+
+-- Its ticks at once.
+by-one-and-all : (n : ℕ) (ps : List Paddle) → map (ticks n) ps ≡ map (paddleBy n) ps
+by-one-and-all n [] = refl
+by-one-and-all n (p ∷ ps) = ap₂ (λ (q : Paddle) (qs : List Paddle). q ∷ qs) (sym (paddle.skip-ticks n p)) (by-one-and-all n ps)
+
+ticks-at-once : TicksAtOnce
+ticks-at-once s n two silent =
+    after-ticks n s (silent-quiet n s two silent)
+    ∙ ap₂ (λ (all : List ℕ) (ps : List Paddle). switch (plain all (coreBy n (s .plain .core)) ps) (s .password)) (registers-by n (s .plain)) (by-one-and-all n (s .plain .paddles))
 
 -- A flash that is over stays over.
 pub steady-next : (l : Lamp) → l .flash ≡ 0 → lampTicked l .flash ≡ 0
@@ -259,4 +331,4 @@ room-to-spare s room d enough = rw (le-ltb room 48 enough)
 
 -- All of it.
 pub by-itself : ByItself
-by-itself = record { left = left-to-itself; rest = rest-is-silent; room = room-to-spare }
+by-itself = record { left = left-to-itself; at-once = ticks-at-once; rest = rest-is-silent; room = room-to-spare }

@@ -3,30 +3,38 @@ use mathlib.Core.Bool.{false}
 use mathlib.Core.List.{List, [], _∷_, _++_, map}
 use mathlib.Core.Path.{_≡_}
 use Prim.Native.Nat.{ℕ, zero, suc, _-_, _/_, _≤_, _<_}
+use lib.Dec.{eqb}
 use lib.ListN.{length}
+use Rattle.words.specs.Words.{if_then_else_}
+use Rattle.timers.specs.Timers.{beatsBy, less, turnedBy}
 use Rattle.units.specs.Units.{off, percentOf, step}
 use Rattle.units.specs.declared.Step.{Step}
-use Rattle.vault.specs.Job.{Switch}
+use Rattle.vault.specs.Job.{Switch, switch}
 use Rattle.vault.specs.Machine.{Throughout, run, transcript}
 use Rattle.vault.specs.Product.{machine}
 use Rattle.vault.specs.declared.Mode.{Mode}
 use Rattle.dimmer.specs.Dimmer.{tickedBy}
 use Rattle.dimmer.specs.declared.Dimmer.{Dimmer}
+use Rattle.lamp.specs.Promises.{skip as lampBy}
 use Rattle.lamp.specs.declared.Colour.{Colour}
 use Rattle.lamp.specs.declared.Colour.the-variants.{Black}
 use Rattle.packet.specs.Promises.{Sound}
 use Rattle.packet.specs.Reading.{messageOf}
 use Rattle.packet.specs.declared.Header.{Header}
 use Rattle.paddle.specs.Paddle.{down, gesture}
-use Rattle.paddle.specs.Promises.{ticks}
+use Rattle.paddle.specs.Promises.{skip as paddleBy, ticks}
 use Rattle.paddle.specs.declared.Gesture.{Gesture}
 use Rattle.paddle.specs.declared.Gesture.the-variants.{Nothing, Taps, Hold, Release}
 use Rattle.paddle.specs.declared.Paddle.{Paddle}
 use Rattle.judge.specs.Promises.{Accepted}
 use Rattle.judge.specs.declared.Order.{Order}
+use Rattle.registers.specs.Write.{applied}
+use Rattle.registers.specs.declared.write.Write.the-variants.{Save}
+use Rattle.acts.specs.Core.{core, saveTicks}
 use Rattle.acts.specs.Gestures.{acted}
+use Rattle.acts.specs.declared.Core.{Core}
 use Rattle.post.specs.Post.{announced}
-use Rattle.switch.specs.Switch.{Deed, Event, Plain, Shown, event, press, release, tally, tick}
+use Rattle.switch.specs.Switch.{Deed, Event, Plain, Shown, event, plain, press, release, tally, tick}
 use Rattle.switch.specs.Events.{paddleAt, paddleOf}
 use Rattle.switch.specs.Respond.{respond, wallSwitch}
 
@@ -101,6 +109,29 @@ abbrev pub LeftToItself : Type 0
 LeftToItself =
     (s : Switch Plain) (n : ℕ) → length (s .plain .paddles) ≡ 2 → Steady s → Silent n s → 1 ≤ n
     → Shows (modeIn s) (tickedBy n (dimmerIn s) .level) [] (nthTick s n)
+
+-- All that it holds after n such ticks, but the password, which it keeps. Each counter has its closed form. The registers stay, but for 0xF9
+-- where the level was saved in these ticks: it has the percent of the last of those ticks, and `unsaved` is how many came after that one.
+abbrev pub unsaved : ℕ → ℕ → ℕ
+unsaved n save = less saveTicks - turnedBy n saveTicks save
+
+abbrev pub savedLevel : ℕ → Core → Step
+savedLevel n c = tickedBy (n - unsaved n (c .save)) (c .dimmer) .level
+
+unfoldable pub registersBy : ℕ → Plain → List ℕ
+registersBy n p =
+    if eqb (beatsBy n saveTicks (p .core .save)) 0 then p .registers
+    else applied (Save (percentOf (savedLevel n (p .core)))) [] (p .registers)
+
+abbrev pub coreBy : ℕ → Core → Core
+coreBy n c = core (c .mode) (tickedBy n (c .dimmer)) (lampBy n (c .lamp)) (turnedBy n saveTicks (c .save))
+
+abbrev pub plainBy : ℕ → Plain → Plain
+plainBy n p = plain (registersBy n p) (coreBy n (p .core)) (map (paddleBy n) (p .paddles))
+
+abbrev pub TicksAtOnce : Type 0
+TicksAtOnce =
+    (s : Switch Plain) (n : ℕ) → length (s .plain .paddles) ≡ 2 → Silent n s → runOf s (ticksOf n) ≡ switch (plainBy n (s .plain)) (s .password)
 
 -- A switch with two paddles, both up and with no tap counted, and no flash, as every start leaves it.
 pub record AtRest (s : Switch Plain) : Type 0 where
@@ -182,5 +213,6 @@ blinks (c ∷ cs) = repeated 60 c ++ (repeated 60 Black ++ blinks cs)
 -- All that is promised of a switch that is left to itself.
 pub record ByItself : Type 0 where
   pub left : LeftToItself
+  pub at-once : TicksAtOnce
   pub rest : RestIsSilent
   pub room : RoomToSpare
