@@ -29,8 +29,9 @@ use Rattle.packet.specs.Reading.{messageOf, readOf}
 use Rattle.packet.specs.declared.Frame.the-variants as frame
 use Rattle.packet.proofs.Laws as packet
 use Rattle.paddle.specs.Paddle.{down, fresh, next, pressed}
+use Rattle.paddle.specs.declared.Gesture.the-variants.{Taps}
 use Rattle.paddle.specs.declared.Paddle.{Paddle}
-use Rattle.registers.specs.Places.{counterPlace, digitIn, dimmingIn, lightIn, networkIn, size}
+use Rattle.registers.specs.Places.{counterPlace, digitIn, dimmingIn, lightIn, networkIn, singleIn, size}
 use Rattle.registers.specs.Registers.{apart, found, seek, valid}
 use Rattle.registers.specs.Write.{applied, counted, stored}
 use Rattle.registers.specs.declared.Found.the-variants.{At}
@@ -39,6 +40,7 @@ use Rattle.judge.specs.Judge.{judged}
 use Rattle.judge.specs.declared.Order.the-variants as order
 use Rattle.judge.proofs.Laws as judge
 use Rattle.acts.specs.Core.{entering, opened, setting, startLevel, started, unwritten}
+use Rattle.acts.specs.Gestures.{acted, actedIn, doing, inNormal, tapsInNormal}
 use Rattle.acts.specs.Orders.{performed}
 use Rattle.post.specs.Post.{enveloped, header, replied, replyMessage}
 use Rattle.post.specs.declared.Reply.the-variants as reply
@@ -48,7 +50,7 @@ use Rattle.switch.specs.Events.{Asked, answering, finished, job, kindOf, obeyed
 use Rattle.switch.specs.Respond.{respond, startAnswer, startedFrom, wallSwitch}
 use Rattle.promises.specs.Cases.{Bench, Cases, Dark, benchImage, darkImage, packetA, packetB, packetC, packetE, packetFull, packetHalf, replyA, zeros}
 use Rattle.promises.specs.Numbers.{numberAt, refused as row-refused, wrong-password, wrong-sum}
-use Rattle.promises.specs.Ticking.{Accepts, AtRest, Fades, Shows, blinks, coloursOf, dimmerIn, modeIn, nextTick, nthTick, repeated, runOf, ticksOf, with48}
+use Rattle.promises.specs.Ticking.{Accepts, AtRest, Fades, Shows, blinks, coloursOf, dimmerBy, dimmerIn, modeIn, nextTick, nthTick, repeated, runOf, ticksOf, with48}
 use Rattle.promises.proofs.Jobs.{press-job, receive-job}
 use Rattle.promises.proofs.Numbers.{numbers}
 use Rattle.promises.proofs.Presses.{is-double, is-hold, is-nothing, is-tap}
@@ -317,6 +319,10 @@ bench-there : Bench (startedFrom benchImage)
 unfolding startedFrom woken apart started startLevel benchImage zeros applied counterPlace counted stored optionsOf stepOf freshDimmer
 bench-there = record { network = refl; unit = refl; level = refl; mode = refl; capable = refl }
 
+bench-darkens : dimmerBy (Taps 1) 0 (startedFrom benchImage) .level ≡ off
+unfolding startedFrom woken apart started startLevel benchImage zeros applied counterPlace counted stored optionsOf stepOf freshDimmer acted actedIn inNormal tapsInNormal unwritten doing setting singleIn setTo allowed wanted rateOf moved ticksAt paddleOf
+bench-darkens = refl
+
 bench-linked : found (startedFrom benchImage .plain .registers) 3 ≡ At 0
 unfolding startedFrom woken apart benchImage zeros applied counterPlace counted stored found seek valid
 bench-linked = refl
@@ -369,6 +375,7 @@ cases = record {
   f-shortest = λ s contact known rest idle. is-tap s contact known idle rest _ (omega arith) (omega arith);
   f-longest = λ s contact known rest idle. is-tap s contact known idle rest _ (omega arith) (omega arith);
   f-hold = λ s contact known rest idle. is-hold s contact known idle rest;
+  f-there = bench-darkens;
   g = λ s contact known rest idle normal. is-double s contact known idle rest _ _ (omega arith) (omega arith) (omega arith) normal;
   h-half = λ s room bytes enough dark accepts. fades s room bytes enough dark _ _ accepts _ _ _ (omega arith) (omega arith) refl refl (omega arith) (omega arith) (omega arith) refl refl;
   h-full = λ s room bytes enough dark accepts. fades s room bytes enough dark _ _ accepts _ _ _ (omega arith) (omega arith) refl refl (omega arith) (omega arith) (omega arith) refl refl;

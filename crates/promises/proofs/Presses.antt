@@ -1,8 +1,8 @@
--- A press seen whole: case (f) of a switch at rest, event by event.
+-- Presses seen whole: cases (f) and (g) of a switch at rest, event by event.
 use mathlib.Core.Bool.{Bool, true, false}
 use mathlib.Core.List.{List, [], _∷_, _++_, map}
 use mathlib.Core.Path.{_≡_, refl, sym, ap, ap₂, _∙_, subst}
-use Prim.Native.Nat.{ℕ, zero, suc, _+_, _-_, _*_, _%_, _<_, _≤_}
+use Prim.Native.Nat.{ℕ, zero, suc, _+_, _-_, _%_, _<_, _≤_}
 use native.Mathlib.Omega.{arith}
 use borrow.Author.Tests.{lt-ltb, ne-eqb}
 use lib.Dec.{eqb}
@@ -27,14 +27,14 @@ use Rattle.dimmer.specs.declared.Motion.the-variants.{Idle, Fading, Blinking}
 use Rattle.lamp.specs.Lamp.{blinked}
 use Rattle.lamp.specs.declared.Lamp.{Lamp}
 use Rattle.lamp.proofs.Laws.{output-plain}
-use Rattle.paddle.specs.Paddle.{closing, counted, down, fresh, gesture, gestureUp, left, next, none, pressed, released}
+use Rattle.paddle.specs.Paddle.{closing, counted, down, fresh, gesture, gestureUp, next, none, pressed, released}
 use Rattle.paddle.specs.Promises.{due, gestureFor, past, pressFor, raised, skip, ticks, wait, waitFor}
 use Rattle.paddle.specs.declared.Contact.{Contact}
 use Rattle.paddle.specs.declared.Gesture.{Gesture}
 use Rattle.paddle.specs.declared.Gesture.the-variants.{Hold, Nothing, Release, Taps}
 use Rattle.paddle.specs.declared.Paddle.{Paddle}
 use Rattle.paddle.proofs.Laws as paddle
-use Rattle.registers.specs.Places.{dimmingIn, doubleIn, entryIn, singleIn, transmitIn}
+use Rattle.registers.specs.Places.{actionPlace, dimmingIn, doubleIn, entryIn, entryPlace, singleIn, transmitIn, transmitPlace}
 use Rattle.registers.specs.Write.{applied}
 use Rattle.registers.specs.declared.write.Write.{Write}
 use Rattle.registers.specs.declared.write.Write.the-variants.{Factory as FactoryValues, Nothing as Unwritten}
@@ -59,30 +59,30 @@ use Rattle.promises.proofs.Ticks.{Agrees, left-to-itself, plainly-shows
 module _ (all now : List ℕ) (same : Agrees all now) (i : ℕ) where
   same-single : singleIn now i ≡ singleIn all i
   unfolding singleIn
-  same-single = rw (same (0x7A + 4 * (i % 2)) (λ e. omega arith), same (0x7A + 4 * (i % 2) + 1) (λ e. omega arith))
+  same-single = rw (same (actionPlace i) (λ e. omega arith), same (actionPlace i + 1) (λ e. omega arith))
 
   same-double : doubleIn now i ≡ doubleIn all i
   unfolding doubleIn
-  same-double = rw (same (0x7A + 4 * (i % 2) + 2) (λ e. omega arith), same (0x7A + 4 * (i % 2) + 3) (λ e. omega arith))
+  same-double = rw (same (actionPlace i + 2) (λ e. omega arith), same (actionPlace i + 3) (λ e. omega arith))
 
   same-transmit : transmitIn now i ≡ transmitIn all i
   unfolding transmitIn
   same-transmit =
       rw (
-        same (0x70 + 5 * (i % 2)) (λ e. omega arith),
-        same (0x70 + 5 * (i % 2) + 1) (λ e. omega arith),
-        same (0x70 + 5 * (i % 2) + 2) (λ e. omega arith),
-        same (0x70 + 5 * (i % 2) + 3) (λ e. omega arith),
-        same (0x70 + 5 * (i % 2) + 4) (λ e. omega arith),
+        same (transmitPlace i) (λ e. omega arith),
+        same (transmitPlace i + 1) (λ e. omega arith),
+        same (transmitPlace i + 2) (λ e. omega arith),
+        same (transmitPlace i + 3) (λ e. omega arith),
+        same (transmitPlace i + 4) (λ e. omega arith),
       )
 
   same-entry : entryIn now i ≡ entryIn all i
   unfolding entryIn
   same-entry =
       rw (
-        same (0x90 + 3 * (i % 14)) (λ e. omega arith),
-        same (0x90 + 3 * (i % 14) + 1) (λ e. omega arith),
-        same (0x90 + 3 * (i % 14) + 2) (λ e. omega arith),
+        same (entryPlace i) (λ e. omega arith),
+        same (entryPlace i + 1) (λ e. omega arith),
+        same (entryPlace i + 2) (λ e. omega arith),
       )
 
   same-options : dimmingIn now ≡ dimmingIn all

@@ -11,6 +11,7 @@ use Rattle.vault.specs.declared.Mode.the-variants.{Normal, Setup}
 use Rattle.dimmer.specs.Dimmer.{optionsOf}
 use Rattle.dimmer.specs.declared.Motion.the-variants.{Idle}
 use Rattle.lamp.specs.declared.Colour.the-variants.{Green, Red}
+use Rattle.paddle.specs.declared.Gesture.the-variants.{Taps}
 use Rattle.registers.specs.Places.{dimmingIn, networkIn, size, unitIn}
 use Rattle.registers.specs.Registers.{found}
 use Rattle.registers.specs.declared.Found.the-variants.{At}
@@ -19,7 +20,7 @@ use Rattle.post.specs.Promises.{CaseJ}
 use Rattle.switch.specs.Switch.{Plain, event, receive}
 use Rattle.switch.specs.Respond.{respond, startAnswer, startedFrom}
 use Rattle.promises.specs.Numbers.{numberAt}
-use Rattle.promises.specs.Ticking.{Accepts, AtRest, Fades, IsHold, IsNothing, IsTaps, blinks, coloursOf, dimmerIn, levelIn, modeIn}
+use Rattle.promises.specs.Ticking.{Accepts, AtRest, Fades, IsHold, IsNothing, IsTaps, blinks, coloursOf, dimmerBy, dimmerIn, levelIn, modeIn}
 unfoldable pub use Rattle.promises.specs.Ticking.{paddleAfter, pressOf, runOf, ticksOf, with48}
 
 -- The switch of its first sentence.
@@ -96,6 +97,8 @@ pub record Cases : Type 0 where
   pub f-shortest : (s : Switch Plain) (contact : ℕ) → contact ≤ 3 → AtRest s → dimmerIn s .motion ≡ Idle → IsTaps 1 contact s (pressOf 60 contact)
   pub f-longest : (s : Switch Plain) (contact : ℕ) → contact ≤ 3 → AtRest s → dimmerIn s .motion ≡ Idle → IsTaps 1 contact s (pressOf 179 contact)
   pub f-hold : (s : Switch Plain) (contact : ℕ) → contact ≤ 3 → AtRest s → dimmerIn s .motion ≡ Idle → IsHold contact s
+  -- Nothing and a tap can be told apart: one tap of the top paddle puts the bench's switch from step 80 to 0.
+  pub f-there : dimmerBy (Taps 1) 0 (startedFrom benchImage) .level ≡ off
   -- (g): a press 179 ticks after a tap was counted still counts with it. In Normal.
   pub g : (s : Switch Plain) (contact : ℕ) → contact ≤ 3 → AtRest s → dimmerIn s .motion ≡ Idle → modeIn s ≡ Normal
       → IsTaps 2 contact s (pressOf 60 contact ++ (ticksOf 179 ++ pressOf 60 contact))
