@@ -56,13 +56,18 @@ unfoldable pub secondSeen : Seen → ℕ
 secondSeen Hidden = 0
 secondSeen (Shown w) = w .1
 
--- Past 0xFF there is nothing, which reads as 0.
-unfoldable pub readAt : List ℕ → Seen → ℕ → ℕ
-readAt all seen place =
+abbrev pub masked : Seen → ℕ → ℕ → ℕ
+masked seen place held =
     if eqb place firstPlace then firstSeen seen
     else if eqb place secondPlace then secondSeen seen
-    else if ltb place size then getD all place 0
-    else 0
+    else held
+
+-- Past 0xFF there is nothing, which reads as 0.
+abbrev pub heldAt : List ℕ → ℕ → ℕ
+heldAt all place = if ltb place size then getD all place 0 else 0
+
+unfoldable pub readAt : List ℕ → Seen → ℕ → ℕ
+readAt all seen place = masked seen place (heldAt all place)
 
 -- n registers from a place on.
 unfoldable pub rangeOf : List ℕ → Seen → ℕ → ℕ → List ℕ

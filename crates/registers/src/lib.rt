@@ -1,7 +1,7 @@
 // The 256 registers, with the password held apart from them: the bytes at 0x02 and 0x03 are dead.
 ghost use mathlib.Core.Path.{_≡_};
 ghost use lib.ListN.{length};
-ghost use Rattle.registers.specs.Registers.{Took, imageOf, rangeOf, readAt, firstSeen, secondSeen, found, numberTaken, valid};
+ghost use Rattle.registers.specs.Registers.{Took, imageOf, rangeOf, heldAt, masked, firstSeen, secondSeen, found, numberTaken, valid};
 use vault::Password;
 
 pub mod places;
@@ -88,14 +88,25 @@ pub fn range(all: &[u8; 256], seen: Seen, first: u8, out: &mut [u8])
     let mut i = 0;
     while i < out.len() {
         let place = start + i;
-        out[i] = register(all, seen, place);
+        let held = register(all, place);
+        out[i] = masked(seen, place, held);
         i += 1;
     }
 }
 
-// One register. The password's places show what the reader was handed, whatever the array holds there.
-fn register(all: &[u8; 256], seen: Seen, place: usize) -> u8
-    ensures { λ r. ⌜ r ≡ readAt (now (all .entry)) seen place ⌝ }
+// The array's byte of a place.
+fn register(all: &[u8; 256], place: usize) -> u8
+    ensures { λ r. ⌜ r ≡ heldAt (now (all .entry)) place ⌝ }
+{
+    if place < SIZE {
+        return all[place];
+    }
+    0
+}
+
+// The password's places show what the reader was handed, whatever the array holds there.
+fn masked(seen: Seen, place: usize, held: u8) -> u8
+    ensures { λ r. ⌜ r ≡ masked seen place held ⌝ }
 {
     if place == FIRST {
         return first_seen(seen);
@@ -103,10 +114,7 @@ fn register(all: &[u8; 256], seen: Seen, place: usize) -> u8
     if place == SECOND {
         return second_seen(seen);
     }
-    if place < SIZE {
-        return all[place];
-    }
-    0
+    held
 }
 
 fn first_seen(seen: Seen) -> u8

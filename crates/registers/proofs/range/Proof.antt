@@ -1,4 +1,4 @@
-use mathlib.Core.Path.{_≡_, refl, sym, _∙_}
+use mathlib.Core.Path.{_≡_, refl, sym, ap, _∙_}
 use mathlib.Core.List.{List, [], _∷_, _++_, append-assoc, append-nil}
 use Prim.Native.Nat.{ℕ, suc, _≤_, _<_, _+_, _-_}
 use native.Mathlib.Nat.{add-zero}
@@ -7,7 +7,7 @@ use native.Mathlib.Omega.{arith}
 use lib.ListN.{length, take, set, length-set}
 use lib.Seq.{take-all, take-suc-set}
 use borrow.Author.Needs.{needs}
-use Rattle.registers.specs.Registers.{rangeOf, readAt}
+use Rattle.registers.specs.Registers.{masked, rangeOf, readAt}
 use Rattle.registers.specs.declared.Seen.{Seen}
 use Rattle.registers.proofs.range.Statement.{statement}
 use Rattle.registers.proofs.range.Tie as tie
@@ -46,6 +46,9 @@ add-place c = search needs
 register-requires : tie.Need-register-requires Inv-loop μ-loop
 register-requires c κs = search needs
 
+masked-requires : tie.Need-masked-requires Inv-loop μ-loop
+masked-requires c κs = search needs
+
 slice-write-out : tie.Need-slice-write-out Inv-loop μ-loop
 slice-write-out c = search needs
 
@@ -56,14 +59,17 @@ loop-less : tie.Need-loop-less Inv-loop μ-loop
 loop-less c = simp length-set (omega arith)
 
 loop-again : tie.Need-loop-again Inv-loop μ-loop
+unfolding readAt
 loop-again c =
-    let loop = c .before .before .loop in
-    let args = c .before .before .before .before .args in (
+    let held = c .before in
+    let loop = held .before .before .loop in
+    let args = held .before .before .before .before .args in (
       simp length-set (omega arith),
       (
         simp length-set (omega arith),
         λ n e.
-            one-more (args .all .now) (args .seen) (args .first) (loop .out) (loop .i) (c .register .result) n (omega arith) (c .register .ensures)
+            one-more (args .all .now) (args .seen) (args .first) (loop .out) (loop .i) (c .masked .result) n (omega arith)
+            (c .masked .ensures ∙ ap (masked (args .seen) (args .first + loop .i)) (held .register .ensures))
             ∙ loop .inv .1 .1 (suc n) (omega arith),
       ),
     )
@@ -84,6 +90,7 @@ range-spec =
     loop-holds
     add-place
     register-requires
+    masked-requires
     slice-write-out
     add-i
     loop-less
