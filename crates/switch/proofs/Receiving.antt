@@ -8,6 +8,7 @@ use lib.ListN.{length, drop}
 use borrow.Author.Tests.{ne-eqb}
 use types.Run.{OneOf, miss}
 use denote.Enum.Declared.{tagOf}
+use Rattle.words.proofs.Laws.{one-outcome}
 use Rattle.units.specs.Units.{percentOf}
 use Rattle.units.specs.declared.Percent.{Percent}
 use Rattle.vault.specs.Job.{changed, became, nothing, settled, done}
@@ -39,10 +40,10 @@ use Rattle.post.proofs.Laws.{laid-fits, reply-fits, reply-placed, whole-buffer}
 use Rattle.registers.specs.Write.{applied, changeOf, changeAt}
 use Rattle.registers.specs.declared.Seen.{Seen}
 use Rattle.registers.specs.declared.Seen.the-variants as seen
-use Rattle.switch.specs.Switch.{Plain, plain, event, receive, tally, added, answerWith, answerOf}
+use Rattle.switch.specs.Switch.{Plain, plain, event, receive, held, tally, added, answerWith, answerOf}
 use Rattle.switch.specs.Events.{answering, doing, garbled, getting, hueOf, job, obeyed, obeying, opening, ordering, reading, receiving, refused, replyTo, seenBy, signalled}
 use Rattle.switch.specs.Respond.{Responds}
-use Rattle.switch.specs.Code.{Answers, Handles, Leads, Orders, effectOf, garbledBy, handled, lived, unmoved, verdictOf, verdictOn}
+use Rattle.switch.specs.Code.{Answers, Handles, Leads, OneHandled, Orders, effectOf, garbledBy, handled, lived, unmoved, verdictOf, verdictOn}
 use Rattle.switch.specs.declared.Answer.{Answer}
 use Rattle.switch.specs.declared.Live.{Live}
 use Rattle.switch.specs.declared.Sent.{Sent}
@@ -309,3 +310,12 @@ pub handled-responds :
     → Responds (receive bytes) live all out (h .answer) (lived (h .password) (h .core) (live .paddles)) all′ out′
 handled-responds bytes live all out h all′ out′ s =
     record { answered = s .answered (live .paddles); next = s .next (live .paddles); bytes = s .bytes (live .paddles) }
+
+-- No two outcomes: two answers to a packet that keep the promise are one, with the same registers and the same bytes.
+pub one-handled : OneHandled
+one-handled bytes w c all out h h′ all′ all″ out′ out″ x y =
+    let answer : h .answer ≡ h′ .answer = one-outcome (h .answer) (h′ .answer) (x .answered []) (y .answered []) in
+    let next : held (lived (h .password) (h .core) []) all′ ≡ held (lived (h′ .password) (h′ .core) []) all″ = x .next [] ∙ sym (y .next []) in (
+      λ i. handled (answer i) (next i .password) (next i .plain .core),
+      (λ i. next i .plain .registers, one-outcome out′ out″ (x .bytes []) (y .bytes [])),
+    )

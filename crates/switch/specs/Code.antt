@@ -68,6 +68,12 @@ pub record Leads (to : List Paddle → Answered Plain Shown) (out : List ℕ) (h
 abbrev pub Handles : List ℕ → Password → Core → List ℕ → List ℕ → Handled → List ℕ → List ℕ → Type 0
 Handles bytes w c all out = Leads (λ ps. respond (held (lived w c ps) all) (event (length out) (receive bytes))) out
 
+-- No two outcomes: this fixes the answer, core and password after it, every register and every byte of the buffer.
+abbrev pub OneHandled : Type 0
+OneHandled =
+    (bytes : List ℕ) (w : Password) (c : Core) (all out : List ℕ) (h h′ : Handled) (all′ all″ out′ out″ : List ℕ)
+    → Handles bytes w c all out h all′ out′ → Handles bytes w c all out h′ all″ out″ → (h ≡ h′) × ((all′ ≡ all″) × (out′ ≡ out″))
+
 -- An order, settled as its job says.
 abbrev pub Orders : Order → ℕ → List ℕ → Password → Core → List ℕ → List ℕ → Handled → List ℕ → List ℕ → Type 0
 Orders o source values w c all out = Leads (λ ps. settled w (ordering o source values (plain all c ps))) out
