@@ -18,8 +18,9 @@ use Rattle.packet.specs.declared.Written.{Written}
 use Rattle.packet.specs.declared.Written.the-variants as written
 use Rattle.packet.specs.Layout.{headerIn, wholeIn, reservedIn, headed, total, packed}
 use Rattle.packet.specs.Reading.{readOf, numberOf, messageOf}
-use Rattle.packet.specs.Writing.{inRange, writtenOf, laid, Wrote}
+use Rattle.packet.specs.Writing.{inRange, writtenOf, numberOfWritten, laid, Wrote}
 use Rattle.packet.specs.Promises.{Sized, Counted, Summed, Given, Sound, GivenExactly, Ranges, GivenWritten, WrittenExactly, OneOutcome}
+use Rattle.packet.specs.Promises.{Row, done, too-short, too-long, wrong-length, wrong-sum, reserved-bit, WrittenRow, whole, out-of-range, no-room}
 use Rattle.packet.proofs.Frame.{the-type}
 
 -- What the reader answers meets its row of the table.
@@ -54,9 +55,29 @@ only Sum p g = search tests
 only Reserved p g = search tests
 only (Read h) p g = rw (g .header) (search tests)
 
+-- What the reader answers has that answer's number, and its row.
+row-of : (f : Frame) (p : List ℕ) → Given f p → Row p (numberOf f)
+row-of Short p g = too-short g
+row-of Long p g = too-long g
+row-of Length p g = wrong-length g
+row-of Sum p g = wrong-sum g
+row-of Reserved p g = reserved-bit g
+row-of (Read h) p g = done h g
+
+row-only : (p : List ℕ) (n : ℕ) → Row p n → numberOf (readOf p) ≡ n
+row-only p n (done h g) = ap numberOf (only (Read h) p g)
+row-only p n (too-short g) = ap numberOf (only Short p g)
+row-only p n (too-long g) = ap numberOf (only Long p g)
+row-only p n (wrong-length g) = ap numberOf (only Length p g)
+row-only p n (wrong-sum g) = ap numberOf (only Sum p g)
+row-only p n (reserved-bit g) = ap numberOf (only Reserved p g)
+
 -- Each of the reader's numbers is given exactly when its row of the table says.
 pub exactly : GivenExactly
-exactly f p = (λ e. subst (λ (f : Frame). Given f p) e (given p), only f p)
+exactly = record {
+  answer = λ f p. (λ e. subst (λ (f : Frame). Given f p) e (given p), only f p);
+  number = λ p n. (λ e. subst (Row p) e (row-of (readOf p) p (given p)), row-only p n);
+}
 
 -- A refusal's number is 4 to 8.
 pub refusal-number : (f : Frame) → (numberOf f ≡ 0 → ⊥) → (4 ≤ numberOf f) × (numberOf f ≤ 8)
@@ -78,7 +99,7 @@ not-read Reserved k z = omega arith
 
 -- A packet that is read passes every check, and the header is the one in its bytes.
 pub sound : (p : List ℕ) (h : Header) → readOf p ≡ Read h → Sound p h
-sound p h = exactly (Read h) p .0
+sound p h = exactly .answer (Read h) p .0
 
 -- The message of a packet that is read stands from byte 5 up to the checksum.
 pub message-is : (p : List ℕ) (h : Header) → readOf p ≡ Read h → messageOf p ≡ take (length p - 6) (drop 5 p)
@@ -136,10 +157,25 @@ written-only written.Field h size room g =
 written-only written.Short h size room g = rw (in-range h size (g .0)) (search tests)
 written-only (written.Packet n) h size room g = rw (in-range h size (g .0), g .1 .1) (search tests)
 
+-- What the writer answers has that answer's number, and its row.
+written-row-of : (w : Written) (h : Header) (size room : ℕ) → GivenWritten w h size room → WrittenRow h size room (numberOfWritten w)
+written-row-of written.Field h size room g = out-of-range g
+written-row-of written.Short h size room g = no-room g
+written-row-of (written.Packet n) h size room g = whole (g .0, (g .1 .0, refl))
+
+written-row-only : (h : Header) (size room n : ℕ) → WrittenRow h size room n → numberOfWritten (writtenOf h size room) ≡ n
+written-row-only h size room n (whole g) = ap numberOfWritten (written-only (written.Packet (size + 6)) h size room g)
+written-row-only h size room n (out-of-range g) = ap numberOfWritten (written-only written.Field h size room g)
+written-row-only h size room n (no-room g) = ap numberOfWritten (written-only written.Short h size room g)
+
 -- Each of the writer's numbers is given exactly when its row of the table says.
 pub exactly-written : WrittenExactly
-exactly-written w h size room =
-    (λ e. subst (λ (w : Written). GivenWritten w h size room) e (written-given h size room), written-only w h size room)
+exactly-written = record {
+  answer = λ w h size room.
+      (λ e. subst (λ (w : Written). GivenWritten w h size room) e (written-given h size room), written-only w h size room);
+  number = λ h size room n.
+      (λ e. subst (WrittenRow h size room) e (written-row-of (writtenOf h size room) h size room (written-given h size room)), written-row-only h size room n);
+}
 
 -- No two outcomes: the writer's promise fixes the answer and every byte of the buffer.
 pub one-written : OneOutcome
@@ -156,7 +192,7 @@ packed-length h m = simp length-append (omega arith)
 pub written-length : (h : Header) (m before after : List ℕ) (n : ℕ) → Wrote h m before (written.Packet n) after
     → Ranges h (length m) × ((n ≡ length m + 6) × ((7 ≤ n) × ((n ≤ 24) × (n ≤ length before))))
 written-length h m before after n w =
-    let g = exactly-written (written.Packet n) h (length m) (length before) .0 (sym (w .answered)) in
+    let g = exactly-written .answer (written.Packet n) h (length m) (length before) .0 (sym (w .answered)) in
     let r = g .0 in
     (r, (g .1 .1, (omega arith, (omega arith, omega arith))))
 

@@ -14,7 +14,7 @@ use Rattle.packet.specs.declared.Written.{Written}
 use Rattle.packet.specs.declared.Written.the-variants as written
 use Rattle.packet.specs.Layout.{wholeIn, reservedIn, headerIn, total, packed}
 use Rattle.packet.specs.Reading.{readOf, numberOf, messageOf}
-use Rattle.packet.specs.Writing.{writtenOf, Wrote}
+use Rattle.packet.specs.Writing.{writtenOf, numberOfWritten, Wrote}
 
 -- passes 4 and 5
 abbrev pub Sized : List ℕ → Type 0
@@ -46,9 +46,19 @@ Given Sum p = Counted p × (total p % 256 ≡ 0 → ⊥)
 Given Reserved p = Summed p × (reservedIn (getD p 1 0) ≡ 0 → ⊥)
 Given (Read h) p = Sound p h
 
--- "Given exactly when", for the reader.
-abbrev pub GivenExactly : Type 0
-GivenExactly = (f : Frame) (p : List ℕ) → (readOf p ≡ f) ↔ Given f p
+-- the same rows by their numbers
+pub data Row (p : List ℕ) : ℕ → Type 0 where
+  done : (h : Header) → Given (Read h) p → Row p 0
+  too-short : Given Short p → Row p 4
+  too-long : Given Long p → Row p 5
+  wrong-length : Given Length p → Row p 6
+  wrong-sum : Given Sum p → Row p 7
+  reserved-bit : Given Reserved p → Row p 8
+
+-- "Given exactly when", for the reader: its answer, and the number of that.
+pub record GivenExactly : Type 0 where
+  pub answer : (f : Frame) (p : List ℕ) → (readOf p ≡ f) ↔ Given f p
+  pub number : (p : List ℕ) (n : ℕ) → (numberOf (readOf p) ≡ n) ↔ Row p n
 
 -- A header whose fields are in range, and a message of 1 to 18 bytes.
 pub record Ranges (h : Header) (size : ℕ) : Type 0 where
@@ -65,9 +75,16 @@ GivenWritten written.Field h size room = Ranges h size → ⊥
 GivenWritten written.Short h size room = Ranges h size × (room < size + 6)
 GivenWritten (written.Packet n) h size room = Ranges h size × ((size + 6 ≤ room) × (n ≡ size + 6))
 
--- "Given exactly when", for the writer.
-abbrev pub WrittenExactly : Type 0
-WrittenExactly = (w : Written) (h : Header) (size room : ℕ) → (writtenOf h size room ≡ w) ↔ GivenWritten w h size room
+-- the same rows by their numbers
+pub data WrittenRow (h : Header) (size room : ℕ) : ℕ → Type 0 where
+  whole : GivenWritten (written.Packet (size + 6)) h size room → WrittenRow h size room 0
+  out-of-range : GivenWritten written.Field h size room → WrittenRow h size room 15
+  no-room : GivenWritten written.Short h size room → WrittenRow h size room 2
+
+-- "Given exactly when", for the writer: its answer with the packet's length, and the number of that.
+pub record WrittenExactly : Type 0 where
+  pub answer : (w : Written) (h : Header) (size room : ℕ) → (writtenOf h size room ≡ w) ↔ GivenWritten w h size room
+  pub number : (h : Header) (size room n : ℕ) → (numberOfWritten (writtenOf h size room) ≡ n) ↔ WrittenRow h size room n
 
 -- No two outcomes: the writer's promise fixes the answer and every byte of the buffer.
 abbrev pub OneOutcome : Type 0

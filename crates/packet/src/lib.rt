@@ -7,7 +7,7 @@ ghost use lib.ListN.{length, drop};
 ghost use lib.Seq.{paste};
 ghost use Rattle.packet.specs.Layout.{wholeIn, reservedIn, headerIn, firstByte, secondByte, headed, total, balance, packed};
 ghost use Rattle.packet.specs.Reading.{readOf, numberOf, messageOf};
-ghost use Rattle.packet.specs.Writing.{inRange, numberOfWritten, Wrote};
+ghost use Rattle.packet.specs.Writing.{inRange, Wrote};
 
 // The shortest and the longest packet, and the longest message.
 const LEAST: usize = 7;
@@ -69,18 +69,6 @@ pub enum Written {
     Packet(u8),
     Field,
     Short,
-}
-
-impl Written {
-    pub fn number(self) -> u8
-        ensures { λ r. ⌜ r ≡ numberOfWritten self ⌝ }
-    {
-        match self {
-            Written::Packet(_) => 0,
-            Written::Field => 15,
-            Written::Short => 2,
-        }
-    }
 }
 
 pub fn read(packet: &[u8]) -> Frame

@@ -90,17 +90,6 @@ unfolding enveloped front
 front-length h [] most = omega arith
 front-length h (b ∷ bs) most = omega (arith, packed-length h (b ∷ bs))
 
--- Length 0 says that there is no packet, any other that there is one.
-pub front-none : (h : Header) (m : List ℕ) → length (front (enveloped h m)) ≡ 0 → enveloped h m ≡ []
-unfolding enveloped front
-front-none h [] e = refl
-front-none h (b ∷ bs) e = absurd (omega (arith, packed-length h (b ∷ bs)))
-
-pub front-one : (h : Header) (m : List ℕ) → (length (front (enveloped h m)) ≡ 0 → ⊥) → enveloped h m ≡ front (enveloped h m) ∷ []
-unfolding enveloped front
-front-one h [] some = absurd (some refl)
-front-one h (b ∷ bs) some = refl
-
 -- A note's message has at most three bytes, so that its packet has at most nine and fits into a place.
 pub few-bytes : (m : Message) → length (bytesOf m) ≤ 3
 unfolding bytesOf

@@ -45,10 +45,10 @@ module _ (link : Bool) (network destination source : ℕ) (before after : List �
   wrote-nothing [] Short most k w = rw (w .bytes) (nothing-laid before)
   wrote-nothing (b ∷ bs) Field most k w =
       absurd
-      (exactly-written Field _ _ _ .0 (sym (w .answered)) (own-ranges link network destination source _ (omega arith) most))
+      (exactly-written .answer Field _ _ _ .0 (sym (w .answered)) (own-ranges link network destination source _ (omega arith) most))
   wrote-nothing (b ∷ bs) Short most k w =
       let h = header link network destination source in
-      let g = exactly-written Short _ _ _ .0 (sym (w .answered)) in
+      let g = exactly-written .answer Short _ _ _ .0 (sym (w .answered)) in
       let long = packed-length h (b ∷ bs) in
       record {
         answered = sym (laid-short (packed h (b ∷ bs)) (length before) (omega arith));

@@ -4,7 +4,7 @@ ghost use Prim.Native.Nat.{_≤_, min};
 ghost use mathlib.Core.Bool.{false};
 ghost use lib.ListN.{length};
 ghost use Rattle.post.specs.Post.{noNote, noteOf, commandNumber, gestureNumber, chosen, trimmed, takesLevel};
-ghost use Rattle.post.specs.Post.{sentOf, noteHeader, replied, valuesFrom, header, headed, enveloped, front, Laid};
+ghost use Rattle.post.specs.Post.{sentOf, noteHeader, replied, valuesFrom, header, headed, enveloped, Laid};
 use packet::Header;
 use packet::Written;
 use paddle::Gesture;
@@ -34,9 +34,6 @@ const ABSENT: u8 = 255;
 
 // The most values that a reply holds.
 const MOST: u8 = 16;
-
-// The bytes of a packet that stand around its message.
-const AROUND: u8 = 6;
 
 // A message of up to three bytes.
 pub enum Message {
@@ -71,19 +68,6 @@ impl Note {
             source: 0,
             destination: 0,
             message: Message::Empty,
-        }
-    }
-
-    // The whole length of its packet, 0 where there is none.
-    pub fn length(self) -> u8
-        ensures { λ r. ⌜ r ≡ length (front (sentOf self)) ⌝ }
-    {
-        let message = self.message;
-        match message {
-            Message::Empty => 0,
-            Message::One(_) => AROUND + 1,
-            Message::Two(_, _) => AROUND + 2,
-            Message::Three(_, _, _) => AROUND + 3,
         }
     }
 }

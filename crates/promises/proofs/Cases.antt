@@ -172,7 +172,7 @@ module _ (s : Switch Plain) (room : ℕ) (enough : 48 ≤ room) (bench : Bench s
 
 e-number : (s : Switch Plain) (room : ℕ) → 48 ≤ room → numberAt s (event room (receive packetE)) ≡ 7
 e-number s room enough =
-    numbers .exactly s (event room (receive packetE)) 7 .1 (row-refused 7 enough (wrong-sum (packet.exactly frame.Sum packetE .0 (reads .e))))
+    numbers .exactly s (event room (receive packetE)) 7 .1 (row-refused 7 enough (wrong-sum (packet.exactly .answer frame.Sum packetE .0 (reads .e))))
 
 -- A press moves its paddle as the recogniser says, of a switch of two paddles.
 abbrev Has : Switch Plain → ℕ → Paddle → Type 0

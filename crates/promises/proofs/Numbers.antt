@@ -35,6 +35,8 @@ use Rattle.post.specs.Post.{placed}
 use Rattle.post.specs.declared.Reply.the-variants as reply
 use Rattle.post.proofs.Sending.{announces}
 use Rattle.registers.specs.Places.{size}
+use Rattle.registers.specs.Registers.{numberTaken}
+use Rattle.registers.specs.declared.Taken.the-variants.{Refused}
 use Rattle.registers.specs.Write.{applied, changeAt, changeOf}
 use Rattle.registers.specs.declared.Seen.the-variants as seen
 use Rattle.switch.specs.Switch.{Deed, Event, Plain, Shown, answerOf, answerWith, event, plain, press, receive, release, restart, shown, tick}
@@ -113,11 +115,11 @@ module _ (s : Switch Plain) where
     frame-found : (f : Frame) → readOf bytes ≡ f → Found (receive bytes) (numberIn (s .password) (reading f (messageOf bytes) (s .plain)))
     unfolding Found reading garbled answerOf answerWith settled
     frame-found (frame.Read h) e = order-found h (packet.sound bytes h e) _ refl (h .source) (drop 2 (messageOf bytes))
-    frame-found frame.Short e = inr (too-short (packet.exactly frame.Short bytes .0 e))
-    frame-found frame.Long e = inr (too-long (packet.exactly frame.Long bytes .0 e))
-    frame-found frame.Length e = inr (wrong-length (packet.exactly frame.Length bytes .0 e))
-    frame-found frame.Sum e = inr (wrong-sum (packet.exactly frame.Sum bytes .0 e))
-    frame-found frame.Reserved e = inr (reserved-bit (packet.exactly frame.Reserved bytes .0 e))
+    frame-found frame.Short e = inr (too-short (packet.exactly .answer frame.Short bytes .0 e))
+    frame-found frame.Long e = inr (too-long (packet.exactly .answer frame.Long bytes .0 e))
+    frame-found frame.Length e = inr (wrong-length (packet.exactly .answer frame.Length bytes .0 e))
+    frame-found frame.Sum e = inr (wrong-sum (packet.exactly .answer frame.Sum bytes .0 e))
+    frame-found frame.Reserved e = inr (reserved-bit (packet.exactly .answer frame.Reserved bytes .0 e))
 
   -- The same of every deed.
   deed-found : (d : Deed) → Found d (numberIn (s .password) (doing d (s .plain)))
@@ -228,8 +230,8 @@ these = record {
 -- A start's number, by the image's length.
 start-number : (image : List ℕ) (b : Bool) → eqb (length image) size ≡ b → numberOfStart image ≡ (if b then 0 else 1)
 unfolding startAnswer answerOf answerWith
-start-number image true h = ap (λ (b : Bool). (if b then answerOf 0 [] (startedFrom image .plain) else noAnswer) .number) h
-start-number image false h = ap (λ (b : Bool). (if b then answerOf 0 [] (startedFrom image .plain) else noAnswer) .number) h
+start-number image true h = ap (λ (b : Bool). (if b then answerOf 0 [] (startedFrom image .plain) else noAnswer (numberTaken Refused)) .number) h
+start-number image false h = ap (λ (b : Bool). (if b then answerOf 0 [] (startedFrom image .plain) else noAnswer (numberTaken Refused)) .number) h
 
 start-ways : {X : Type 0} (image : List ℕ) → (length image ≡ size → numberOfStart image ≡ 0 → X)
     → ((length image ≡ size → ⊥) → numberOfStart image ≡ 1 → X) → X

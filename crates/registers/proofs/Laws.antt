@@ -14,7 +14,7 @@ use Rattle.words.specs.Words.{Bytes}
 use Rattle.words.proofs.Laws.{both, cases, neither, two-ways}
 use Rattle.vault.specs.declared.Password.{Password}
 use Rattle.registers.specs.Places.{size, firstPlace, secondPlace, secret}
-use Rattle.registers.specs.Registers.{passwordIn, apart, imageOf, Dead, takenOf, afterTaking, Took, firstSeen, secondSeen, readAt, rangeOf}
+use Rattle.registers.specs.Registers.{passwordIn, apart, imageOf, Dead, takenOf, afterTaking, Took, numberTaken, TakenExactly, firstSeen, secondSeen, readAt, rangeOf}
 use Rattle.registers.specs.declared.Seen.{Seen}
 use Rattle.registers.specs.declared.Seen.the-variants.{Hidden, Shown}
 use Rattle.registers.specs.declared.Taken.{Taken}
@@ -128,6 +128,21 @@ image-taken image all h = (rw (eq-eqb (length image) size h), rw (eq-eqb (length
 pub image-refused : (image all : List ℕ) → length image ≢ size → (takenOf image ≡ Refused) × (afterTaking image all ≡ all)
 unfolding takenOf afterTaking
 image-refused image all h = (rw (ne-eqb (length image) size h), rw (ne-eqb (length image) size h))
+
+-- Each number of taking an image is given exactly when its row of the table says.
+pub taken-exactly : TakenExactly
+taken-exactly = record {
+  taken = λ image. (λ e. by-size image (λ l _. l) (λ _ one. absurd (omega arith)), λ l. by-size image (λ _ z. z) (λ n _. absurd (n l)));
+  refused = λ image. (λ e l. by-size image (λ _ z. omega arith) (λ n _. n l), λ n. by-size image (λ l _. absurd (n l)) (λ _ one. one));
+}
+  where
+    by-size : {X : Type 0} (image : List ℕ) → (length image ≡ size → numberTaken (takenOf image) ≡ 0 → X)
+        → (length image ≢ size → numberTaken (takenOf image) ≡ 1 → X) → X
+    by-size {X} image whole other = go (eqb (length image) size) refl
+      where
+        go : (b : Bool) → eqb (length image) size ≡ b → X
+        go true e = let l = eqb-true _ _ e in whole l (ap numberTaken (image-taken image [] l .0))
+        go false e = let n = eqb-false _ _ e in other n (ap numberTaken (image-refused image [] n .0))
 
 -- Taken or refused, 256 registers stay 256, and dead bytes stay 0.
 pub taking-length : (image all : List ℕ) → length all ≡ size → length (afterTaking image all) ≡ size

@@ -2,6 +2,7 @@
 use mathlib.Core.Path.{_≡_}
 use mathlib.Core.Bool.{Bool, _&&_}
 use mathlib.Core.List.{List, [], _∷_}
+use mathlib.Core.Logic.{_↔_}
 use Prim.Native.Nat.{ℕ, zero, suc, _+_, _<_}
 use lib.Dec.{ltb, eqb}
 use lib.ListN.{length, getD, set}
@@ -42,10 +43,15 @@ pub record Took (image before : List ℕ) (answer : Taken) (after : List ℕ) : 
   pub answered : answer ≡ takenOf image
   pub registers : after ≡ afterTaking image before
 
--- "1: image is not 256 bytes"
-unfoldable pub numberTaken : Taken → ℕ
+-- the number of each answer
+abbrev pub numberTaken : Taken → ℕ
 numberTaken (Apart w) = 0
 numberTaken Refused = 1
+
+-- "1: image is not 256 bytes"; else it is taken.
+pub record TakenExactly : Type 0 where
+  pub taken : (image : List ℕ) → (numberTaken (takenOf image) ≡ 0) ↔ (length image ≡ size)
+  pub refused : (image : List ℕ) → (numberTaken (takenOf image) ≡ 1) ↔ (length image ≡ size → ⊥)
 
 -- "Outside Setup, Get Registers sends 0 for 0x02 and 0x03": a place read without the password, or with it.
 unfoldable pub firstSeen : Seen → ℕ

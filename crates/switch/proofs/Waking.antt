@@ -16,7 +16,7 @@ use Rattle.acts.specs.declared.Core.{Core}
 use Rattle.paddle.specs.Paddle.{fresh}
 use Rattle.paddle.specs.declared.Paddle.{Paddle}
 use Rattle.post.specs.Post.{placed}
-use Rattle.registers.specs.Registers.{Took, apart, passwordIn}
+use Rattle.registers.specs.Registers.{Took, apart, numberTaken, passwordIn}
 use Rattle.registers.specs.Write.{applied}
 use Rattle.registers.specs.declared.Taken.{Taken}
 use Rattle.registers.specs.declared.Taken.the-variants.{Apart, Refused}
@@ -77,10 +77,10 @@ starts image all all₁ taken w answer live′ all′ took e wakes = by-size (eq
         absurd (omega arith)
 
 pub starts-none :
-    (image all all₁ : List ℕ) (taken : Taken) (r : Outcome)
-    → Took image all taken all₁ → taken ≡ Refused → r ≡ noOutcome → Starts image all (r .answer) (r .live) all₁
+    (image all all₁ : List ℕ) (taken : Taken) (number : ℕ) (r : Outcome)
+    → Took image all taken all₁ → taken ≡ Refused → number ≡ numberTaken taken → r ≡ noOutcome number → Starts image all (r .answer) (r .live) all₁
 unfolding startAnswer startNext
-starts-none image all all₁ taken r took e f = by-size (eqb (length image) 256) refl
+starts-none image all all₁ taken number r took e m f = by-size (eqb (length image) 256) refl
   where
     by-size : (b : Bool) → eqb (length image) 256 ≡ b → Starts image all (r .answer) (r .live) all₁
     by-size true h =
@@ -91,7 +91,7 @@ starts-none image all all₁ taken r took e f = by-size (eqb (length image) 256)
     by-size false h =
         let t = image-refused image all (eqb-false (length image) 256 h) in
         let bare : all₁ ≡ all = took .registers ∙ t .1 in
-        record { answered = simp (h, f); next = simp (h, f, bare) }
+        record { answered = simp (h, f, m, e); next = simp (h, f, bare) }
 
 -- What `let Taken::Apart(..) = taken else` leaves is a refusal.
 pub not-taken : (t : Taken) → OneOf (1 ∷ []) (tagOf the-type t) → t ≡ Refused

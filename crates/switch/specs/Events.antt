@@ -13,7 +13,7 @@ use Rattle.vault.specs.declared.Password.{Password}
 use Rattle.lamp.specs.Lamp.{blinked}
 use Rattle.lamp.specs.declared.Colour.{Colour}
 use Rattle.lamp.specs.declared.Colour.the-variants.{Black, Red, Green}
-use Rattle.packet.specs.Reading.{readOf, messageOf}
+use Rattle.packet.specs.Reading.{readOf, numberOf, messageOf}
 use Rattle.packet.specs.declared.Frame.{Frame}
 use Rattle.packet.specs.declared.Frame.the-variants as frame
 use Rattle.paddle.specs.Paddle.{fresh, pressed, released, gestureUp, next}
@@ -183,14 +183,18 @@ garbled number p =
     let next = plain (p .registers) (signalled Black (p .core)) (p .paddles) in
     outcome (shown number [] next) next
 
+-- A packet that the reader refuses: the number is the reader's.
+abbrev unread : Frame → Plain → Asked
+unread f p = done (garbled (numberOf f) p) nothing
+
 unfoldable pub reading : Frame → List ℕ → Plain → Asked
 reading (frame.Read header) message p =
     ordering (judged (p .registers) (p .core .mode) header message) (header .source) (drop 2 message) p
-reading frame.Short message p = done (garbled 4 p) nothing
-reading frame.Long message p = done (garbled 5 p) nothing
-reading frame.Length message p = done (garbled 6 p) nothing
-reading frame.Sum message p = done (garbled 7 p) nothing
-reading frame.Reserved message p = done (garbled 8 p) nothing
+reading frame.Short message p = unread frame.Short p
+reading frame.Long message p = unread frame.Long p
+reading frame.Length message p = unread frame.Length p
+reading frame.Sum message p = unread frame.Sum p
+reading frame.Reserved message p = unread frame.Reserved p
 
 unfoldable pub receiving : List ℕ → Plain → Asked
 receiving bytes p = reading (readOf bytes) (messageOf bytes) p

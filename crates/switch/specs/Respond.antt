@@ -17,7 +17,8 @@ use Rattle.lamp.specs.Lamp.{fresh as freshLamp}
 use Rattle.lamp.specs.declared.Colour.the-variants.{Black}
 use Rattle.acts.specs.Core.{core}
 use Rattle.post.specs.Post.{placed}
-use Rattle.registers.specs.Registers.{apart, passwordIn}
+use Rattle.registers.specs.Registers.{apart, numberTaken, passwordIn}
+use Rattle.registers.specs.declared.Taken.the-variants.{Refused}
 use Rattle.switch.specs.Switch.{Plain, Shown, Event, Deed, event, held, freshPaddles, tally, answerOf}
 use Rattle.switch.specs.Events.{job, woken}
 use Rattle.switch.specs.declared.Answer.{Answer}
@@ -52,17 +53,17 @@ startedFrom image = switch (woken (apart image)) (passwordIn image)
 abbrev pub nobody : Live
 nobody = record { password = password 0 0; core = core Normal (freshDimmer off) freshLamp 0; paddles = freshPaddles }
 
-abbrev pub noAnswer : Answer
-noAnswer = record { number = 1; sent = tally []; level = off; output = off; colour = Black; mode = Normal }
+abbrev pub noAnswer : ℕ → Answer
+noAnswer number = record { number = number; sent = tally []; level = off; output = off; colour = Black; mode = Normal }
 
-abbrev pub noOutcome : Outcome
-noOutcome = record { answer = noAnswer; live = nobody }
+abbrev pub noOutcome : ℕ → Outcome
+noOutcome number = record { answer = noAnswer number; live = nobody }
 
 abbrev pub whole : List ℕ → Bool
 whole image = eqb (length image) 256
 
 unfoldable pub startAnswer : List ℕ → Answer
-startAnswer image = if whole image then answerOf 0 [] (startedFrom image .plain) else noAnswer
+startAnswer image = if whole image then answerOf 0 [] (startedFrom image .plain) else noAnswer (numberTaken Refused)
 
 unfoldable pub startNext : List ℕ → List ℕ → Switch Plain
 startNext image all = if whole image then startedFrom image else held nobody all

@@ -31,7 +31,7 @@ pub fn start(image: &[u8], all: &mut [u8; 256]) -> Outcome
 {
     let taken = registers::take(image, all);
     let Taken::Apart(password) = taken else {
-        return nobody();
+        return nobody(taken.number());
     };
     wake(password, all)
 }
@@ -71,8 +71,8 @@ fn wake(password: Password, all: &mut [u8; 256]) -> Outcome
 }
 
 // What stands in the place of a switch that was not started.
-fn nobody() -> Outcome
-    ensures { λ r. ⌜ r ≡ noOutcome ⌝ }
+fn nobody(number: u8) -> Outcome
+    ensures { λ r. ⌜ r ≡ noOutcome number ⌝ }
 {
     let paddles = [Paddle::up(), Paddle::up()];
     let core = Core {
@@ -83,7 +83,7 @@ fn nobody() -> Outcome
     };
     Outcome {
         answer: Answer {
-            number: 1,
+            number,
             sent: Sent::none(),
             level: Step::OFF,
             output: Step::OFF,

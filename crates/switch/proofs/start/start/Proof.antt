@@ -12,11 +12,14 @@ enum-known-taken c = search needs
 enum-told : tie.Need-enum-told
 enum-told c = search needs
 
+number-requires : tie.Need-number-requires
+number-requires c κs = search needs
+
 nobody-requires : tie.Need-nobody-requires
 nobody-requires c κs = search needs
 
 returns : tie.Need-returns
-returns c = starts-none _ _ _ _ _ (c .before .before .before .take .ensures) (not-taken _ (c .before .before .match .keys2)) (c .nobody .ensures)
+returns c = starts-none _ _ _ _ _ _ (c .before .before .before .before .take .ensures) (not-taken _ (c .before .before .before .match .keys2)) (c .before .number .ensures) (c .nobody .ensures)
 
 wake-requires : tie.Need-wake-requires
 wake-requires c κs = search needs
@@ -31,6 +34,7 @@ start-spec =
     take-requires
     enum-known-taken
     enum-told
+    number-requires
     nobody-requires
     returns
     wake-requires
