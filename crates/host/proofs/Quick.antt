@@ -1,5 +1,5 @@
 -- The quick ways write what the whole way would: all else stands there already.
-use mathlib.Core.Bool.{Bool, true, false, true≢false}
+use mathlib.Core.Bool.{Bool, true, false, true≢false, and-eq-true-iff}
 use mathlib.Core.List.{List, [], map}
 use mathlib.Core.Path.{_≡_, refl, sym, ap, _∙_}
 use Prim.Native.Nat.{ℕ, zero, suc, _+_, _%_, _≤_, _<_}
@@ -38,7 +38,7 @@ use Rattle.switch.specs.declared.Answer.{Answer as SwitchAnswer}
 use Rattle.switch.specs.declared.Sent.{Sent}
 use Rattle.switch.specs.declared.paddles.Recognised.{Recognised}
 use Rattle.switch.specs.declared.receive.Handled.{Handled}
-use Rattle.switch.proofs.Quick.{both-hold, plainly, quick-press, quick-release, quick-tick}
+use Rattle.switch.proofs.Quick.{plainly, quick-press, quick-release, quick-tick}
 use Rattle.host.specs.Mirror.{kindPlace, lastPlace, levelPlace, savePlace, targetPlace, motionOf, paddleOf, paddlesOf, dimmerOf, lampOf, coreOf, passwordOf, liveOf, answerOf}
 use Rattle.host.specs.Keeping.{kept, keptFlag, keptMode, keptHue, keptKind, keptCourse, keptTarget, keptTimers, keptRun, keptTimes, keptAllTimes, keptCounters}
 use Rattle.host.specs.Keeping.{keptPaddle, keptPaddles, keptPassword, keptDimmer, keptCore, keptNumbers, keptStep}
@@ -197,8 +197,8 @@ quiet-kept :
     → keptPaddles (map next (paddlesOf counters numbers)) l ≡ keptPaddles (paddlesOf counters numbers) l
 unfolding keptPaddles paddlesOf quiet
 quiet-kept counters numbers l h =
-    let top = both-hold _ _ h in
-    let bottom = both-hold _ _ (top .1) in
+    let top = and-eq-true-iff _ _ .0 h in
+    let bottom = and-eq-true-iff _ _ .0 (top .1) in
     rw (still-kept 0 (paddleOf 0 counters numbers) l (top .0), still-kept 1 (paddleOf 1 counters numbers) _ (bottom .0))
 
 -- A tick of the dimmer changes the level and the kind of motion, and these only where something runs.

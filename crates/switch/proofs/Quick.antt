@@ -1,6 +1,6 @@
 -- The quick ways: an event that completes no gesture, and a tick that saves nothing besides, run their counters and do nothing else.
 use mathlib.Core.Path.{_≡_, refl, sym, ap, _∙_}
-use mathlib.Core.Bool.{Bool, true, false, true≢false, _&&_}
+use mathlib.Core.Bool.{Bool, true, false, true≢false, _&&_, and-eq-true-iff}
 use mathlib.Core.List.{List, [], _∷_, map, append-nil}
 use Prim.Native.Nat.{ℕ, suc, _+_, _≤_, _<_}
 use native.Mathlib.Numerals.{add-one}
@@ -63,17 +63,12 @@ unfolding turned after unwritten applied changeOf changeAt
 turned-nothing i m =
     rw (nothing-acts (m .registers) i (m .core), no-packet, append-nil (m .sent), nothing-followed (m .change))
 
--- Both of two tests hold.
-pub both-hold : (a b : Bool) → (a && b) ≡ true → (a ≡ true) × (b ≡ true)
-both-hold true b h = (refl, h)
-both-hold false b h = absurd (true≢false (sym h))
-
 -- The turns of quiet paddles leave everything as it was.
 pub turns-quiet : (ps : List Paddle) (i : ℕ) (m : Moment) → quiet ps ≡ true → turns i ps m ≡ m
 unfolding turns quiet
 turns-quiet [] i m h = refl
 turns-quiet (p ∷ ps) i m h =
-    let parts = both-hold (none (gesture p)) (quiet ps) h in
+    let parts = and-eq-true-iff (none (gesture p)) (quiet ps) .0 h in
     rw (nothing-done (gesture p) (parts .0), turned-nothing i m) (turns-quiet ps (i + 1) m (parts .1))
 
 -- A tick that saves nothing.
@@ -125,7 +120,7 @@ pub passed-responds :
     → Responds tick live all out (p .answer) (lived (live .password) (p .core) (r .paddles)) all out
 unfolding passed answerOf placed
 passed-responds live all out r p room e taken f =
-    let parts = both-hold (r .quiet) (ltb 0 (live .core .save)) taken in
+    let parts = and-eq-true-iff (r .quiet) (ltb 0 (live .core .save)) .0 taken in
     let still : quiet (live .paddles) ≡ true = ap (λ (x : Recognised). x .quiet) (sym e) ∙ parts .0 in
     let quick = quick-tick all (live .core) (live .paddles) (live .password) (length out) room (ltb-true 0 (live .core .save) (parts .1)) still in
     record {
