@@ -1,7 +1,7 @@
 // What a packet asks for: the checks 9 to 13 in their order, and the command with its arguments taken apart. It sees no password.
 ghost use mathlib.Core.Path.{_≡_};
 ghost use Rattle.vault.specs.Vault.{inSetup};
-ghost use Rattle.judge.specs.Judge.{heard, directly, matching, targetOf, reached, verbOf, listed, argument, arguments, inRange, values, suits, toUs, direct, byLink, inNormal, permitted, componentOf, optional, ordered, judged, numberOf};
+ghost use Rattle.judge.specs.Judge.{heard, directly, matching, targetOf, reached, verbOf, listed, argument, arguments, inRange, values, suits, toUs, direct, byLink, inNormal, permitted, componentOf, optional, ordered, judged};
 use dimmer::Options;
 use packet::Header;
 use registers::Found;
@@ -344,28 +344,6 @@ impl Verb {
             Verb::Report => Order::Report,
             Verb::Store => Order::Store(target.component()),
             Verb::Unlisted => Order::Refused(11),
-        }
-    }
-}
-
-impl Order {
-    // The number of the answer: the refusal's, or 0.
-    pub fn number(self) -> u8
-        ensures { λ r. ⌜ r ≡ numberOf self ⌝ }
-    {
-        match self {
-            Order::Refused(n) => n,
-            Order::Open(_) => 0,
-            Order::Close => 0,
-            Order::Get { .. } => 0,
-            Order::Set { .. } => 0,
-            Order::Activate(_) => 0,
-            Order::Deactivate(_) => 0,
-            Order::Goto { .. } => 0,
-            Order::Stop => 0,
-            Order::Blink(_) => 0,
-            Order::Report => 0,
-            Order::Store(_) => 0,
         }
     }
 }
