@@ -25,13 +25,13 @@ use Rattle.acts.specs.Core.{effect, unwritten, startLevel, started, aged
 use Rattle.acts.specs.Orders
 use Rattle.acts.specs.Orders.{blinking, storing, performed}
 use Rattle.acts.specs.Gestures
-use Rattle.acts.specs.Gestures.{far, doing, holding, tapsInNormal, tapsInSetup, tapsInFactory, inNormal, inSetup, inFactory, actedIn, acted}
+use Rattle.acts.specs.Gestures.{far, byAction, holding, tapsInNormal, tapsInSetup, tapsInFactory, actedInNormal, actedInSetup, actedInFactory, actedIn, acted}
 use Rattle.acts.specs.declared.Core.{Core}
 use Rattle.acts.specs.declared.Effect.{Effect}
 
 -- No gesture, no act.
 nothing-in : (mode : Mode) (all : List ℕ) (paddle : ℕ) (c : Core) → actedIn mode all paddle Nothing c ≡ unwritten c
-unfolding actedIn inNormal inSetup inFactory
+unfolding actedIn actedInNormal actedInSetup actedInFactory
 nothing-in Normal all paddle c = refl
 nothing-in Setup all paddle c = refl
 nothing-in Factory all paddle c = refl
@@ -66,7 +66,7 @@ module _ (all : List ℕ) (paddle : ℕ) (c : Core) where
       Says e = e .write ≡ Unwritten
 
   writes-in : (mode : Mode) (g : Gesture) → actedIn mode all paddle g c .write ≡ Gestures.writes mode g
-  unfolding actedIn inNormal inSetup inFactory Gestures.writes unwritten
+  unfolding actedIn actedInNormal actedInSetup actedInFactory Gestures.writes unwritten
   writes-in Normal Nothing = refl
   writes-in Normal (Taps n) = taps-write-in-normal n
   writes-in Normal Hold = refl
@@ -90,7 +90,7 @@ holding-mode all paddle c = both (λ (d : Core). d .mode ≡ c .mode) (optionsOf
 
 module _ (all : List ℕ) (paddle : ℕ) (c : Core) where
   taps-lead-in-normal : (n : ℕ) → c .mode ≡ Normal → tapsInNormal all paddle n c .core .mode ≡ Gestures.leads Normal (Taps n)
-  unfolding tapsInNormal Gestures.leads unwritten opened entering doing setting
+  unfolding tapsInNormal Gestures.leads unwritten opened entering byAction setting
   taps-lead-in-normal n e =
       cases Says (eqb n 1) (λ h. rw (eqb-true n 1 h) e) (λ _. cases Says (eqb n 2) (λ h. rw (eqb-true n 2 h) e) (λ _. cases Says (eqb n 5) (λ h. rw h) (λ h. rw h e)))
     where
@@ -106,7 +106,7 @@ module _ (all : List ℕ) (paddle : ℕ) (c : Core) where
       Says f = f .core .mode ≡ Gestures.leads Setup (Taps n)
 
   taps-lead-in-factory : (n : ℕ) → c .mode ≡ Factory → tapsInFactory all paddle n c .core .mode ≡ Gestures.leads Factory (Taps n)
-  unfolding tapsInFactory Gestures.leads unwritten entering doing setting
+  unfolding tapsInFactory Gestures.leads unwritten entering byAction setting
   taps-lead-in-factory n e =
       cases Says (eqb n 1) (λ h. rw (eqb-true n 1 h) e) (λ _. cases Says (eqb n 2) (λ h. rw h) (λ h. rw h e))
     where
@@ -114,7 +114,7 @@ module _ (all : List ℕ) (paddle : ℕ) (c : Core) where
       Says f = f .core .mode ≡ Gestures.leads Factory (Taps n)
 
   leads-in : (mode : Mode) (g : Gesture) → c .mode ≡ mode → actedIn mode all paddle g c .core .mode ≡ Gestures.leads mode g
-  unfolding actedIn inNormal inSetup inFactory Gestures.leads unwritten stopping
+  unfolding actedIn actedInNormal actedInSetup actedInFactory Gestures.leads unwritten stopping
   leads-in Normal Nothing e = e
   leads-in Normal (Taps n) e = taps-lead-in-normal n e
   leads-in Normal Hold e = holding-mode all paddle c ∙ e
@@ -133,8 +133,8 @@ unfolding acted
 gesture-leads all paddle g c = leads-in all paddle c (c .mode) g refl
 
 -- What an order writes, and which mode it leaves.
-pub order-writes : (all : List ℕ) (o : Order) (c : Core) → performed all o c .write ≡ Orders.writes o (c .dimmer .level)
-unfolding performed storing Orders.writes unwritten
+pub order-writes : (all : List ℕ) (o : Order) (c : Core) → performed all o c .write ≡ Orders.orderWrites o (c .dimmer .level)
+unfolding performed storing Orders.orderWrites unwritten
 order-writes all (order.Refused n) c = refl
 order-writes all (order.Open guess) c = refl
 order-writes all order.Close c = refl
@@ -148,8 +148,8 @@ order-writes all (order.Blink value) c = refl
 order-writes all order.Report c = refl
 order-writes all (order.Store i) c = refl
 
-pub order-leads : (all : List ℕ) (o : Order) (c : Core) → performed all o c .core .mode ≡ Orders.leads o (c .mode)
-unfolding performed storing Orders.leads unwritten entering setting stopping blinking
+pub order-leads : (all : List ℕ) (o : Order) (c : Core) → performed all o c .core .mode ≡ Orders.orderLeads o (c .mode)
+unfolding performed storing Orders.orderLeads unwritten entering setting stopping blinking
 order-leads all (order.Refused n) c = refl
 order-leads all (order.Open guess) c = refl
 order-leads all order.Close c = refl
@@ -203,7 +203,7 @@ module _ (all : List ℕ) (paddle : ℕ) (c : Core) (w : Ranged c) where
   holding-ranged = both Ranged (optionsOf (dimmingIn all) .capable) (setting-ranged all (far paddle) 255 c w) w
 
   ranged-in : (mode : Mode) (g : Gesture) → Ranged (actedIn mode all paddle g c .core)
-  unfolding actedIn inNormal inSetup inFactory tapsInNormal tapsInSetup tapsInFactory unwritten opened entering stopping doing
+  unfolding actedIn actedInNormal actedInSetup actedInFactory tapsInNormal tapsInSetup tapsInFactory unwritten opened entering stopping byAction
   ranged-in Normal Nothing = w
   ranged-in Normal (Taps n) =
       both Leaves (eqb n 1) (setting-ranged all (singleIn all paddle .level) (singleIn all paddle .rate) c w)

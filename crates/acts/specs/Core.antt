@@ -3,15 +3,15 @@ use mathlib.Core.List.{List}
 use Prim.Native.Nat.{ℕ}
 use lib.Dec.{ltb}
 use Rattle.words.specs.Words.{if_then_else_}
-use Rattle.timers.specs.Timers.{less, beats, turned}
+use Rattle.timers.specs.Timers.{less, beats, metronome}
 use Rattle.units.specs.Units.{off, percent, stepOf, percentOf}
 use Rattle.units.specs.declared.Step.{Step}
 use Rattle.vault.specs.declared.Mode.{Mode}
 use Rattle.vault.specs.declared.Mode.the-variants.{Normal, Setup}
 use Rattle.dimmer.specs.Dimmer.{optionsOf, setTo, stopped, ticked}
-use Rattle.dimmer.specs.Dimmer.{fresh as freshDimmer}
+use Rattle.dimmer.specs.Dimmer.{freshDimmer}
 use Rattle.dimmer.specs.declared.Dimmer.{Dimmer}
-use Rattle.lamp.specs.Lamp.{fresh as freshLamp, entered as flashed, next as lampTicked}
+use Rattle.lamp.specs.Lamp.{freshLamp, entered as flashed, nextLamp}
 use Rattle.lamp.specs.declared.Lamp.{Lamp}
 use Rattle.registers.specs.Places.{dimmingIn, savedIn}
 use Rattle.registers.specs.declared.write.Write.{Write}
@@ -43,14 +43,14 @@ started all = core Normal (freshDimmer (startLevel (savedIn all))) freshLamp (le
 
 -- "Each tick, in order: lamp and output timers, fade or blink .."
 unfoldable pub aged : Core → Core
-aged c = core (c .mode) (ticked (c .dimmer)) (lampTicked (c .lamp)) (c .save)
+aged c = core (c .mode) (ticked (c .dimmer)) (nextLamp (c .lamp)) (c .save)
 
 -- ".. and every 480th tick since start or restart the percent goes to 0xF9."
 unfoldable pub toSave : Core → Write
 toSave c = if beats (c .save) then Save (percentOf (c .dimmer .level)) else Nothing
 
 unfoldable pub saved : Core → Effect
-saved c = effect (core (c .mode) (c .dimmer) (c .lamp) (turned saveTicks (c .save))) (toSave c)
+saved c = effect (core (c .mode) (c .dimmer) (c .lamp) (metronome saveTicks (c .save))) (toSave c)
 
 -- The core with another dimmer; with a level set, by what 0x8D then says.
 abbrev pub withDimmer : Dimmer → Core → Core

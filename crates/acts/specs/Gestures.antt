@@ -18,8 +18,8 @@ use Rattle.acts.specs.declared.Core.{Core}
 use Rattle.acts.specs.declared.Effect.{Effect}
 
 -- "1 and 2 set the level from the action table"
-unfoldable pub doing : List ℕ → Action → Core → Core
-doing all action c = setting all (action .level) (action .rate) c
+unfoldable pub byAction : List ℕ → Action → Core → Core
+byAction all action c = setting all (action .level) (action .rate) c
 
 -- "Hold, if capable, sets 100 (top) or 0 (bottom) at the default rate"
 unfoldable pub far : ℕ → ℕ
@@ -32,16 +32,16 @@ holding all paddle c = if optionsOf (dimmingIn all) .capable then setting all (f
 -- "Normal: 1 and 2 set the level from the action table; 5 enters Setup."
 unfoldable pub tapsInNormal : List ℕ → ℕ → ℕ → Core → Effect
 tapsInNormal all paddle taps c =
-    if eqb taps 1 then unwritten (doing all (singleIn all paddle) c)
-    else if eqb taps 2 then unwritten (doing all (doubleIn all paddle) c)
+    if eqb taps 1 then unwritten (byAction all (singleIn all paddle) c)
+    else if eqb taps 2 then unwritten (byAction all (doubleIn all paddle) c)
     else if eqb taps 5 then opened c
     else unwritten c
 
-unfoldable pub inNormal : List ℕ → ℕ → Gesture → Core → Effect
-inNormal all paddle Nothing c = unwritten c
-inNormal all paddle (Taps n) c = tapsInNormal all paddle n c
-inNormal all paddle Hold c = unwritten (holding all paddle c)
-inNormal all paddle Release c = unwritten (stopping c)
+unfoldable pub actedInNormal : List ℕ → ℕ → Gesture → Core → Effect
+actedInNormal all paddle Nothing c = unwritten c
+actedInNormal all paddle (Taps n) c = tapsInNormal all paddle n c
+actedInNormal all paddle Hold c = unwritten (holding all paddle c)
+actedInNormal all paddle Release c = unwritten (stopping c)
 
 -- "Setup: only 2 (to Normal) and 10 (to Factory Default) act."
 unfoldable pub tapsInSetup : ℕ → Core → Effect
@@ -50,29 +50,29 @@ tapsInSetup taps c =
     else if eqb taps 10 then effect (entering Factory c) FactoryValues
     else unwritten c
 
-unfoldable pub inSetup : Gesture → Core → Effect
-inSetup Nothing c = unwritten c
-inSetup (Taps n) c = tapsInSetup n c
-inSetup Hold c = unwritten c
-inSetup Release c = unwritten c
+unfoldable pub actedInSetup : Gesture → Core → Effect
+actedInSetup Nothing c = unwritten c
+actedInSetup (Taps n) c = tapsInSetup n c
+actedInSetup Hold c = unwritten c
+actedInSetup Release c = unwritten c
 
 -- "Factory Default: 2 returns to Normal, the rest as Normal except that 5 does nothing."
 unfoldable pub tapsInFactory : List ℕ → ℕ → ℕ → Core → Effect
 tapsInFactory all paddle taps c =
-    if eqb taps 1 then unwritten (doing all (singleIn all paddle) c)
+    if eqb taps 1 then unwritten (byAction all (singleIn all paddle) c)
     else if eqb taps 2 then unwritten (entering Normal c)
     else unwritten c
 
-unfoldable pub inFactory : List ℕ → ℕ → Gesture → Core → Effect
-inFactory all paddle Nothing c = unwritten c
-inFactory all paddle (Taps n) c = tapsInFactory all paddle n c
-inFactory all paddle Hold c = unwritten (holding all paddle c)
-inFactory all paddle Release c = unwritten (stopping c)
+unfoldable pub actedInFactory : List ℕ → ℕ → Gesture → Core → Effect
+actedInFactory all paddle Nothing c = unwritten c
+actedInFactory all paddle (Taps n) c = tapsInFactory all paddle n c
+actedInFactory all paddle Hold c = unwritten (holding all paddle c)
+actedInFactory all paddle Release c = unwritten (stopping c)
 
 unfoldable pub actedIn : Mode → List ℕ → ℕ → Gesture → Core → Effect
-actedIn Normal all paddle g c = inNormal all paddle g c
-actedIn Setup all paddle g c = inSetup g c
-actedIn Factory all paddle g c = inFactory all paddle g c
+actedIn Normal all paddle g c = actedInNormal all paddle g c
+actedIn Setup all paddle g c = actedInSetup g c
+actedIn Factory all paddle g c = actedInFactory all paddle g c
 
 unfoldable pub acted : List ℕ → ℕ → Gesture → Core → Effect
 acted all paddle g c = actedIn (c .mode) all paddle g c

@@ -5,7 +5,7 @@ use Rattle.units.specs.Units.{percentOf}
 use Rattle.units.specs.declared.Step.{Step}
 use Rattle.vault.specs.declared.Mode.{Mode}
 use Rattle.vault.specs.declared.Mode.the-variants.{Normal}
-use Rattle.dimmer.specs.Dimmer.{blinked}
+use Rattle.dimmer.specs.Dimmer.{setBlinking}
 use Rattle.judge.specs.declared.Order.{Order}
 use Rattle.judge.specs.declared.Order.the-variants as order
 use Rattle.registers.specs.Places.{componentIn}
@@ -17,7 +17,7 @@ use Rattle.acts.specs.declared.Effect.{Effect}
 
 -- "0x25 Blink (optional value)"
 unfoldable pub blinking : ℕ → Core → Core
-blinking value c = withDimmer (blinked (c .dimmer) value) c
+blinking value c = withDimmer (setBlinking (c .dimmer) value) c
 
 -- "0x31 Store Preset (percent into its level)"
 unfoldable pub storing : ℕ → Core → Effect
@@ -42,30 +42,30 @@ performed all order.Report c = unwritten c
 performed all (order.Store i) c = storing i c
 
 -- What an order writes and which mode it leaves.
-unfoldable pub writes : Order → Step → Write
-writes (order.Refused n) level = Nothing
-writes (order.Open guess) level = Nothing
-writes order.Close level = Nothing
-writes (order.Get first count) level = Nothing
-writes (order.Set first) level = Values first
-writes (order.Activate i) level = Nothing
-writes (order.Deactivate i) level = Nothing
-writes (order.Goto target rate) level = Nothing
-writes order.Stop level = Nothing
-writes (order.Blink value) level = Nothing
-writes order.Report level = Nothing
-writes (order.Store i) level = Preset i (percentOf level)
+unfoldable pub orderWrites : Order → Step → Write
+orderWrites (order.Refused n) level = Nothing
+orderWrites (order.Open guess) level = Nothing
+orderWrites order.Close level = Nothing
+orderWrites (order.Get first count) level = Nothing
+orderWrites (order.Set first) level = Values first
+orderWrites (order.Activate i) level = Nothing
+orderWrites (order.Deactivate i) level = Nothing
+orderWrites (order.Goto target rate) level = Nothing
+orderWrites order.Stop level = Nothing
+orderWrites (order.Blink value) level = Nothing
+orderWrites order.Report level = Nothing
+orderWrites (order.Store i) level = Preset i (percentOf level)
 
-unfoldable pub leads : Order → Mode → Mode
-leads (order.Refused n) mode = mode
-leads (order.Open guess) mode = mode
-leads order.Close mode = Normal
-leads (order.Get first count) mode = mode
-leads (order.Set first) mode = mode
-leads (order.Activate i) mode = mode
-leads (order.Deactivate i) mode = mode
-leads (order.Goto target rate) mode = mode
-leads order.Stop mode = mode
-leads (order.Blink value) mode = mode
-leads order.Report mode = mode
-leads (order.Store i) mode = mode
+unfoldable pub orderLeads : Order → Mode → Mode
+orderLeads (order.Refused n) mode = mode
+orderLeads (order.Open guess) mode = mode
+orderLeads order.Close mode = Normal
+orderLeads (order.Get first count) mode = mode
+orderLeads (order.Set first) mode = mode
+orderLeads (order.Activate i) mode = mode
+orderLeads (order.Deactivate i) mode = mode
+orderLeads (order.Goto target rate) mode = mode
+orderLeads order.Stop mode = mode
+orderLeads (order.Blink value) mode = mode
+orderLeads order.Report mode = mode
+orderLeads (order.Store i) mode = mode

@@ -1,6 +1,6 @@
 // What a paddle's gesture does by the mode it finds. The paddle is known by its number: an even one is a top.
 ghost use mathlib.Core.Path.{_≡_};
-ghost use Rattle.acts.specs.Gestures.{acted, inNormal, inSetup, inFactory, tapsInNormal, tapsInSetup, tapsInFactory, doing, holding, far};
+ghost use Rattle.acts.specs.Gestures.{acted, actedInNormal, actedInSetup, actedInFactory, tapsInNormal, tapsInSetup, tapsInFactory, byAction, holding, far};
 use crate::Core;
 use crate::Effect;
 use dimmer::Options;
@@ -21,7 +21,7 @@ pub fn act(core: Core, all: &[u8; 256], paddle: u8, gesture: Gesture) -> Effect
 }
 
 fn in_normal(core: Core, all: &[u8; 256], paddle: u8, gesture: Gesture) -> Effect
-    ensures { λ r. ⌜ r ≡ inNormal (now (all .entry)) paddle gesture core ⌝ }
+    ensures { λ r. ⌜ r ≡ actedInNormal (now (all .entry)) paddle gesture core ⌝ }
 {
     match gesture {
         Gesture::Nothing => core.unwritten(),
@@ -32,7 +32,7 @@ fn in_normal(core: Core, all: &[u8; 256], paddle: u8, gesture: Gesture) -> Effec
 }
 
 fn in_setup(core: Core, gesture: Gesture) -> Effect
-    ensures { λ r. ⌜ r ≡ inSetup gesture core ⌝ }
+    ensures { λ r. ⌜ r ≡ actedInSetup gesture core ⌝ }
 {
     match gesture {
         Gesture::Nothing => core.unwritten(),
@@ -43,7 +43,7 @@ fn in_setup(core: Core, gesture: Gesture) -> Effect
 }
 
 fn in_factory(core: Core, all: &[u8; 256], paddle: u8, gesture: Gesture) -> Effect
-    ensures { λ r. ⌜ r ≡ inFactory (now (all .entry)) paddle gesture core ⌝ }
+    ensures { λ r. ⌜ r ≡ actedInFactory (now (all .entry)) paddle gesture core ⌝ }
 {
     match gesture {
         Gesture::Nothing => core.unwritten(),
@@ -99,7 +99,7 @@ fn taps_in_factory(core: Core, all: &[u8; 256], paddle: u8, taps: u8) -> Effect
 }
 
 fn doing(core: Core, all: &[u8; 256], action: Action) -> Core
-    ensures { λ r. ⌜ r ≡ doing (now (all .entry)) action core ⌝ }
+    ensures { λ r. ⌜ r ≡ byAction (now (all .entry)) action core ⌝ }
 {
     core.setting(all, action.level, action.rate)
 }

@@ -8,7 +8,7 @@ use lib.Dec.{ltb, eqb}
 use borrow.Author.Tests.{lt-ltb, le-ltb, eq-eqb, ne-eqb, eqb-true, eqb-false, ltb-true, ltb-false}
 use Rattle.words.specs.Words.{if_then_else_}
 use Rattle.words.proofs.Laws.{both, cases, two-ways, three-ways}
-use Rattle.timers.specs.Timers.{less, beats, turned, turnedBy, beatsBy}
+use Rattle.timers.specs.Timers.{less, beats, metronome, metronomeBy, beatsBy}
 use Rattle.timers.proofs.Laws.{turned-none, turned-more, beats-none, beats-more, beats-whole}
 use Rattle.units.specs.Units.{step, full, off, percent, stepOf}
 use Rattle.units.proofs.Laws.{step-within}
@@ -17,7 +17,7 @@ use Rattle.dimmer.specs.declared.Options.{Options}
 use Rattle.dimmer.specs.declared.Motion.{Motion}
 use Rattle.dimmer.specs.declared.Motion.the-variants.{Idle, Fading, Blinking}
 use Rattle.dimmer.specs.declared.Dimmer.{Dimmer}
-use Rattle.dimmer.specs.Dimmer.{dimmer, ticksOf, wanted, fresh, rateOf, allowed, remembered, moved, setTo, stoppedFrom, stopped, Bounded, Within, blinkTicks, blinked, towards, stepped, flipped, faded, flickered, ticked, tickedFrom, distance, walked, gone, running, EndsAfter, flippedBy, tickedByFrom, tickedBy}
+use Rattle.dimmer.specs.Dimmer.{dimmer, ticksPerStep, wanted, freshDimmer, rateOf, allowed, remembered, headingTo, setTo, stoppedFrom, stopped, TargetWithin, Within, flipTicks, setBlinking, towards, stepped, flipped, faded, flickered, ticked, tickedFrom, distance, walked, gone, running, EndsAfter, flippedBy, tickedByFrom, tickedBy}
 
 -- A dimmer after no tick is as it was.
 walked-none : (level target : Step) → walked 0 level target ≡ level
@@ -82,11 +82,11 @@ module _ (level last target : Step) (period : ℕ) where
       (λ k. simp (lt-ltb b (max 1 (distance level target)) h, e, le-ltb (b + 1) (max 1 (distance level target)) k, there b level target h k)))
       (λ h. simp (le-ltb b (max 1 (distance level target)) h, le-ltb (b + 1) (max 1 (distance level target)) (omega arith)))
 
-  gone-more : (b left : ℕ) → ticked (gone b left level last target period) ≡ gone (if beats left then b + 1 else b) (turned period left) level last target period
-  unfolding turned
+  gone-more : (b left : ℕ) → ticked (gone b left level last target period) ≡ gone (if beats left then b + 1 else b) (metronome period left) level last target period
+  unfolding metronome
   gone-more b left = go (eqb left 0) refl
     where
-      go : (t : Bool) → eqb left 0 ≡ t → ticked (gone b left level last target period) ≡ gone (if beats left then b + 1 else b) (turned period left) level last target period
+      go : (t : Bool) → eqb left 0 ≡ t → ticked (gone b left level last target period) ≡ gone (if beats left then b + 1 else b) (metronome period left) level last target period
       go true e = simp e (gone-step b left e)
       go false e = simp e (gone-on b left e)
 
@@ -106,11 +106,11 @@ flip-more b level =
     (λ k. simp (ne-eqb b 0 (omega arith), ne-eqb (b % 2) 1 (omega arith), ne-eqb (b + 1) 0 (omega arith), eq-eqb ((b + 1) % 2) 1 (omega arith)) (flipped-twice level))
     (λ k. simp (ne-eqb b 0 (omega arith), eq-eqb (b % 2) 1 (omega arith), ne-eqb (b + 1) 0 (omega arith), ne-eqb ((b + 1) % 2) 1 (omega arith))))
 
-flicker-more : (b : ℕ) (level last : Step) (period left : ℕ) → flickered (flippedBy b level) last period left ≡ dimmer (flippedBy (if beats left then b + 1 else b) level) last (Blinking period (turned period left))
+flicker-more : (b : ℕ) (level last : Step) (period left : ℕ) → flickered (flippedBy b level) last period left ≡ dimmer (flippedBy (if beats left then b + 1 else b) level) last (Blinking period (metronome period left))
 unfolding flickered
 flicker-more b level last period left = go (eqb left 0) refl
   where
-    go : (t : Bool) → eqb left 0 ≡ t → flickered (flippedBy b level) last period left ≡ dimmer (flippedBy (if beats left then b + 1 else b) level) last (Blinking period (turned period left))
+    go : (t : Bool) → eqb left 0 ≡ t → flickered (flippedBy b level) last period left ≡ dimmer (flippedBy (if beats left then b + 1 else b) level) last (Blinking period (metronome period left))
     go true e = simp (e, flip-more)
     go false e = simp e
 
@@ -118,24 +118,24 @@ flicker-more b level last period left = go (eqb left 0) refl
 ticked-more-from : (n : ℕ) (level last : Step) (motion : Motion) → ticked (tickedByFrom n level last motion) ≡ tickedByFrom (suc n) level last motion
 unfolding ticked tickedFrom tickedByFrom
 ticked-more-from n level last Idle = refl
-ticked-more-from n level last (Fading target period left) = rw (beats-more, ← turned-more) (gone-more level last target period (beatsBy n period left) (turnedBy n period left))
-ticked-more-from n level last (Blinking period left) = rw (beats-more, ← turned-more) (flicker-more (beatsBy n period left) level last period (turnedBy n period left))
+ticked-more-from n level last (Fading target period left) = rw (beats-more, ← turned-more) (gone-more level last target period (beatsBy n period left) (metronomeBy n period left))
+ticked-more-from n level last (Blinking period left) = rw (beats-more, ← turned-more) (flicker-more (beatsBy n period left) level last period (metronomeBy n period left))
 
 pub ticked-more : (n : ℕ) (d : Dimmer) → ticked (tickedBy n d) ≡ tickedBy (suc n) d
 unfolding tickedBy
 ticked-more n d = ticked-more-from n (d .level) (d .last) (d .motion)
 
 -- "A fade .. ends after exactly ticks per step times distance": until then it runs, one step for each time its ticks have passed ..
-pub fade-runs : (n : ℕ) (from last target : Step) (ticks : ℕ) → 0 < ticks → n < distance from target * ticks → tickedBy n (moved from last target ticks) ≡ dimmer (walked (n / ticks) from target) last (Fading target ticks (turnedBy n ticks (less ticks)))
-unfolding tickedBy tickedByFrom gone moved distance
+pub fade-runs : (n : ℕ) (from last target : Step) (ticks : ℕ) → 0 < ticks → n < distance from target * ticks → tickedBy n (headingTo from last target ticks) ≡ dimmer (walked (n / ticks) from target) last (Fading target ticks (metronomeBy n ticks (less ticks)))
+unfolding tickedBy tickedByFrom gone headingTo distance
 fade-runs n from last target ticks p h =
     let q : n / ticks < distance from target = div-lt-iff-lt-mul p .1 h in
     let apart : from .0 ≡ target .0 → ⊥ = λ e. omega arith in
     simp (ne-eqb ticks 0 (omega arith), ne-eqb (from .0) (target .0) apart, beats-whole n ticks p, lt-ltb (n / ticks) (max 1 (distance from target)) (omega arith))
 
 -- .. and from then on it rests at its target.
-pub fade-ends : (n : ℕ) (from last target : Step) (ticks : ℕ) → distance from target * ticks ≤ n → tickedBy n (moved from last target ticks) ≡ dimmer target last Idle
-unfolding tickedBy tickedByFrom gone moved distance
+pub fade-ends : (n : ℕ) (from last target : Step) (ticks : ℕ) → distance from target * ticks ≤ n → tickedBy n (headingTo from last target ticks) ≡ dimmer target last Idle
+unfolding tickedBy tickedByFrom gone headingTo distance
 fade-ends n from last target ticks h =
     three-ways ticks 0
     (λ k. absurd (omega arith))
@@ -150,7 +150,7 @@ fade-ends n from last target ticks h =
     simp (ne-eqb ticks 0 (omega arith), ne-eqb (from .0) (target .0) apart, beats-whole n ticks p, le-ltb (n / ticks) (max 1 (distance from target)) (omega arith))))
 
 -- A level that is set on a capable dimmer, with a rate of its own, is reached after exactly ticks per step times distance.
-moved-ends : (from last target : Step) (ticks : ℕ) → EndsAfter (distance from target * ticks) (moved from last target ticks) target
+moved-ends : (from last target : Step) (ticks : ℕ) → EndsAfter (distance from target * ticks) (headingTo from last target ticks) target
 unfolding running
 moved-ends from last target ticks =
     record {
@@ -161,23 +161,23 @@ moved-ends from last target ticks =
     positive : (n a b : ℕ) → n < a * b → 0 < b
     positive n a b h = three-ways b 0 (λ k. absurd (omega arith)) (λ k. absurd (omega (arith, rw k at h))) (λ k. k)
 
-pub fade-takes : (d : Dimmer) (level rate : ℕ) (options : Options) → options .capable ≡ true → level ≤ 100 → rate ≤ 15 → EndsAfter (distance (d .level) (stepOf (percent level)) * ticksOf rate) (setTo d level rate options) (stepOf (percent level))
+pub fade-takes : (d : Dimmer) (level rate : ℕ) (options : Options) → options .capable ≡ true → level ≤ 100 → rate ≤ 15 → EndsAfter (distance (d .level) (stepOf (percent level)) * ticksPerStep rate) (setTo d level rate options) (stepOf (percent level))
 unfolding setTo allowed wanted rateOf
 fade-takes d level rate options able h k =
     simp (able, le-ltb 100 level h, le-ltb 15 rate k)
-    (moved-ends (d .level) (remembered (stepOf (percent level)) (d .last)) (stepOf (percent level)) (ticksOf rate))
+    (moved-ends (d .level) (remembered (stepOf (percent level)) (d .last)) (stepOf (percent level)) (ticksPerStep rate))
 
 -- (h) "Rate 4, 0 to 50%: 600 ticks; rate 15, 0 to 100%: 864,000."
 pub half-at-rate-4 : (last : Step) (motion : Motion) (options : Options) → options .capable ≡ true → EndsAfter 600 (setTo (dimmer off last motion) 50 4 options) (step 100)
-unfolding distance stepOf ticksOf
+unfolding distance stepOf ticksPerStep
 half-at-rate-4 last motion options able = fade-takes (dimmer off last motion) 50 4 options able (omega arith) (omega arith)
 
 pub full-at-rate-15 : (last : Step) (motion : Motion) (options : Options) → options .capable ≡ true → EndsAfter 864000 (setTo (dimmer off last motion) 100 15 options) full
-unfolding distance stepOf ticksOf
+unfolding distance stepOf ticksPerStep
 full-at-rate-15 last motion options able = fade-takes (dimmer off last motion) 100 15 options able (omega arith) (omega arith)
 
-blink-takes : (value : ℕ) → 0 < blinkTicks value
-unfolding blinkTicks
+blink-takes : (value : ℕ) → 0 < flipTicks value
+unfolding flipTicks
 blink-takes value = three-ways value 0 (λ k. absurd (omega arith)) (λ k. simp (eq-eqb value 0 k) (omega arith)) (λ k. simp (ne-eqb value 0 (omega arith)) (omega arith))
 
 flips-shown : (b : ℕ) → flippedBy b full ≡ (if eqb (b % 2) 0 then full else off)
@@ -192,21 +192,21 @@ flips-shown b =
     (λ k. simp (ne-eqb b 0 (omega arith), eq-eqb (b % 2) 1 (omega arith), ne-eqb (b % 2) 0 (omega arith))))
 
 -- "Blink goes to 200 at once and flips between 200 and 0": in every other period it shows 200.
-pub blink-shows : (n : ℕ) (d : Dimmer) (value : ℕ) → tickedBy n (blinked d value) .level ≡ (if eqb (n / blinkTicks value % 2) 0 then full else off)
-unfolding tickedBy tickedByFrom blinked
-blink-shows n d value = rw (beats-whole n (blinkTicks value) (blink-takes value)) (flips-shown (n / blinkTicks value))
+pub blink-shows : (n : ℕ) (d : Dimmer) (value : ℕ) → tickedBy n (setBlinking d value) .level ≡ (if eqb (n / flipTicks value % 2) 0 then full else off)
+unfolding tickedBy tickedByFrom setBlinking
+blink-shows n d value = rw (beats-whole n (flipTicks value) (blink-takes value)) (flips-shown (n / flipTicks value))
 
 -- Level, Last On Level and target stay within 0 to 200, whatever is done.
-pub fresh-within : (level : Step) → level .0 ≤ 200 → Within (fresh level)
-unfolding fresh
+pub fresh-within : (level : Step) → level .0 ≤ 200 → Within (freshDimmer level)
+unfolding freshDimmer
 fresh-within level h = record { level = h; last = omega arith; motion = tt }
 
 remembered-within : (target last : Step) → target .0 ≤ 200 → last .0 ≤ 200 → remembered target last .0 ≤ 200
 unfolding remembered
 remembered-within target last h k = both (λ (s : Step). s .0 ≤ 200) (eqb (target .0) 0) k h
 
-moved-within : (from last target : Step) (ticks : ℕ) → from .0 ≤ 200 → last .0 ≤ 200 → target .0 ≤ 200 → Within (moved from last target ticks)
-unfolding moved
+moved-within : (from last target : Step) (ticks : ℕ) → from .0 ≤ 200 → last .0 ≤ 200 → target .0 ≤ 200 → Within (headingTo from last target ticks)
+unfolding headingTo
 moved-within from last target ticks f l t =
     both Within (eqb ticks 0) (record { level = t; last = l; motion = tt })
     (both Within (eqb (from .0) (target .0)) (record { level = t; last = l; motion = tt }) (record { level = f; last = l; motion = t }))
@@ -219,7 +219,7 @@ set-within d level rate options w =
     let ok : target .0 ≤ 200 =
     both (λ (s : Step). s .0 ≤ 200) (options .capable) asked
     (both (λ (s : Step). s .0 ≤ 200) (eqb (wanted level (d .last) .0) 0) asked (omega arith)) in
-    moved-within (d .level) (remembered target (d .last)) target (ticksOf (rateOf options rate)) (w .level) (remembered-within target (d .last) ok (w .last)) ok
+    moved-within (d .level) (remembered target (d .last)) target (ticksPerStep (rateOf options rate)) (w .level) (remembered-within target (d .last) ok (w .last)) ok
 
 stopped-within-from : (level last : Step) (motion : Motion) → level .0 ≤ 200 → last .0 ≤ 200 → Within (stoppedFrom level last motion)
 unfolding stoppedFrom
@@ -231,8 +231,8 @@ pub stop-within : (d : Dimmer) → Within d → Within (stopped d)
 unfolding stopped
 stop-within d w = stopped-within-from (d .level) (d .last) (d .motion) (w .level) (w .last)
 
-pub blink-within : (d : Dimmer) (value : ℕ) → Within d → Within (blinked d value)
-unfolding blinked
+pub blink-within : (d : Dimmer) (value : ℕ) → Within d → Within (setBlinking d value)
+unfolding setBlinking
 blink-within d value w = record { level = omega arith; last = w .last; motion = tt }
 
 towards-within : (level target : Step) → level .0 ≤ 200 → target .0 ≤ 200 → towards level target .0 ≤ 200
@@ -241,7 +241,7 @@ towards-within level target h k =
     cases (λ (s : Step). s .0 ≤ 200) (ltb (level .0) (target .0)) (λ e. omega (arith, ltb-true))
     (λ e. both (λ (s : Step). s .0 ≤ 200) (ltb (target .0) (level .0)) (omega arith) h)
 
-ticked-within-from : (level last : Step) (motion : Motion) → level .0 ≤ 200 → last .0 ≤ 200 → Bounded motion → Within (tickedFrom level last motion)
+ticked-within-from : (level last : Step) (motion : Motion) → level .0 ≤ 200 → last .0 ≤ 200 → TargetWithin motion → Within (tickedFrom level last motion)
 unfolding tickedFrom faded stepped flickered flipped
 ticked-within-from level last Idle h k b = record { level = h; last = k; motion = tt }
 ticked-within-from level last (Fading target period left) h k b =

@@ -6,7 +6,7 @@ use Prim.Native.Nat.{ℕ, _+_, _-_, _*_, _/_, _%_, _≤_, _<_, max}
 use lib.Dec.{ltb, eqb}
 use lib.ListN.{getD}
 use Rattle.words.specs.Words.{if_then_else_}
-use Rattle.timers.specs.Timers.{less, beats, turned, turnedBy, beatsBy}
+use Rattle.timers.specs.Timers.{less, beats, metronome, metronomeBy, beatsBy}
 use Rattle.units.specs.Units.{step, full, off, percent, stepOf}
 use Rattle.units.specs.declared.Step.{Step}
 use Rattle.dimmer.specs.declared.Options.{Options}
@@ -25,15 +25,15 @@ optionsOf byte = record { rate = byte % 16; capable = eqb (byte / 16 % 2) 1 }
 abbrev pub table : List ℕ
 table = 0 ∷ 1 ∷ 2 ∷ 4 ∷ 6 ∷ 8 ∷ 12 ∷ 24 ∷ 36 ∷ 72 ∷ 144 ∷ 360 ∷ 720 ∷ 1080 ∷ 2160 ∷ 4320 ∷ []
 
-unfoldable pub ticksOf : ℕ → ℕ
-ticksOf rate = getD table rate 0
+unfoldable pub ticksPerStep : ℕ → ℕ
+ticksPerStep rate = getD table rate 0
 
 -- "Setting a level: above 100 means the Last On Level, held in steps, 200 after a start or restart."
 unfoldable pub wanted : ℕ → Step → Step
 wanted level last = if ltb 100 level then last else stepOf (percent level)
 
-unfoldable pub fresh : Step → Dimmer
-fresh level = dimmer level full Idle
+unfoldable pub freshDimmer : Step → Dimmer
+freshDimmer level = dimmer level full Idle
 
 -- "A missing rate, or one above 15, is the default rate. Not capable: every rate is 0 and a nonzero target becomes 200."
 unfoldable pub rateOf : Options → ℕ → ℕ
@@ -47,8 +47,8 @@ unfoldable pub remembered : Step → Step → Step
 remembered target last = if eqb (target .0) 0 then last else target
 
 -- A fade begins where there is a way to go and time to take for it.
-unfoldable pub moved : Step → Step → Step → ℕ → Dimmer
-moved from last target ticks =
+unfoldable pub headingTo : Step → Step → Step → ℕ → Dimmer
+headingTo from last target ticks =
     if eqb ticks 0 then dimmer target last Idle
     else if eqb (from .0) (target .0) then dimmer target last Idle
     else dimmer from last (Fading target ticks (less ticks))
@@ -57,7 +57,7 @@ moved from last target ticks =
 unfoldable pub setTo : Dimmer → ℕ → ℕ → Options → Dimmer
 setTo d level rate options =
     let target = allowed (options .capable) (wanted level (d .last)) in
-    moved (d .level) (remembered target (d .last)) target (ticksOf (rateOf options rate))
+    headingTo (d .level) (remembered target (d .last)) target (ticksPerStep (rateOf options rate))
 
 -- "A fade moves one step each time its ticks have passed."
 unfoldable pub towards : Step → Step → Step
@@ -72,15 +72,15 @@ stepped level last target period =
     else dimmer (towards level target) last (Fading target period (less period))
 
 -- "Blink .. flips between 200 and 0 each 4 x value ticks; value missing or 0 means 30."
-unfoldable pub blinkTicks : ℕ → ℕ
-blinkTicks value = 4 * (if eqb value 0 then 30 else value)
+unfoldable pub flipTicks : ℕ → ℕ
+flipTicks value = 4 * (if eqb value 0 then 30 else value)
 
 unfoldable pub flipped : Step → Step
 flipped level = if eqb (level .0) 0 then full else off
 
 -- "Blink goes to 200 at once. .. It does not touch the Last On Level."
-unfoldable pub blinked : Dimmer → ℕ → Dimmer
-blinked d value = dimmer full (d .last) (Blinking (blinkTicks value) (less (blinkTicks value)))
+unfoldable pub setBlinking : Dimmer → ℕ → Dimmer
+setBlinking d value = dimmer full (d .last) (Blinking (flipTicks value) (less (flipTicks value)))
 
 -- "Stopping a running fade or blink makes a nonzero step the Last On Level; stopping nothing does nothing."
 unfoldable pub stoppedFrom : Step → Step → Motion → Dimmer
@@ -99,7 +99,7 @@ faded level last target period left =
 
 unfoldable pub flickered : Step → Step → ℕ → ℕ → Dimmer
 flickered level last period left =
-    dimmer (if beats left then flipped level else level) last (Blinking period (turned period left))
+    dimmer (if beats left then flipped level else level) last (Blinking period (metronome period left))
 
 unfoldable pub tickedFrom : Step → Step → Motion → Dimmer
 tickedFrom level last Idle = dimmer level last Idle
@@ -110,15 +110,15 @@ unfoldable pub ticked : Dimmer → Dimmer
 ticked d = tickedFrom (d .level) (d .last) (d .motion)
 
 -- Level, Last On Level and a fade's target lie within 0 to 200.
-abbrev pub Bounded : Motion → Type 0
-Bounded Idle = Unit {0}
-Bounded (Fading target period left) = target .0 ≤ 200
-Bounded (Blinking period left) = Unit {0}
+abbrev pub TargetWithin : Motion → Type 0
+TargetWithin Idle = Unit {0}
+TargetWithin (Fading target period left) = target .0 ≤ 200
+TargetWithin (Blinking period left) = Unit {0}
 
 pub record Within (d : Dimmer) : Type 0 where
   pub level : d .level .0 ≤ 200
   pub last : d .last .0 ≤ 200
-  pub motion : Bounded (d .motion)
+  pub motion : TargetWithin (d .motion)
 
 -- After n ticks, in closed form: a fade has gone as many steps as its metronome has beaten, and a blink has flipped as often.
 unfoldable pub distance : Step → Step → ℕ
@@ -142,9 +142,9 @@ flippedBy flips level =
 unfoldable pub tickedByFrom : ℕ → Step → Step → Motion → Dimmer
 tickedByFrom n level last Idle = dimmer level last Idle
 tickedByFrom n level last (Fading target period left) =
-    gone (beatsBy n period left) (turnedBy n period left) level last target period
+    gone (beatsBy n period left) (metronomeBy n period left) level last target period
 tickedByFrom n level last (Blinking period left) =
-    dimmer (flippedBy (beatsBy n period left) level) last (Blinking period (turnedBy n period left))
+    dimmer (flippedBy (beatsBy n period left) level) last (Blinking period (metronomeBy n period left))
 
 unfoldable pub tickedBy : ℕ → Dimmer → Dimmer
 tickedBy n d = tickedByFrom n (d .level) (d .last) (d .motion)

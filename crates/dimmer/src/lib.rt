@@ -1,6 +1,6 @@
 // The dimmer: its level, the Last On Level, and what moves the level. Methods take the state and hand the next one back.
 ghost use mathlib.Core.Path.{_≡_};
-ghost use Rattle.dimmer.specs.Dimmer.{optionsOf, ticksOf, wanted, allowed, remembered, rateOf, moved, fresh, setTo, stopped, blinkTicks, blinked, towards, flipped, stepped, faded, flickered, ticked};
+ghost use Rattle.dimmer.specs.Dimmer.{optionsOf, ticksPerStep, wanted, allowed, remembered, rateOf, headingTo, freshDimmer, setTo, stopped, flipTicks, setBlinking, towards, flipped, stepped, faded, flickered, ticked};
 use units::Percent;
 use units::Step;
 
@@ -80,7 +80,7 @@ impl Options {
 impl Dimmer {
     // The dimmer after a start or restart.
     pub fn fresh(level: Step) -> Dimmer
-        ensures { λ r. ⌜ r ≡ fresh level ⌝ }
+        ensures { λ r. ⌜ r ≡ freshDimmer level ⌝ }
     {
         Dimmer {
             level,
@@ -132,7 +132,7 @@ impl Dimmer {
 
     // Goes to full at once and flips each 4 x value ticks.
     pub fn blink(self, value: u8) -> Dimmer
-        ensures { λ r. ⌜ r ≡ blinked self value ⌝ }
+        ensures { λ r. ⌜ r ≡ setBlinking self value ⌝ }
     {
         let last = self.last;
         let period = blink_ticks(value);
@@ -170,7 +170,7 @@ impl Dimmer {
 
 // Ticks per step of a rate.
 pub fn ticks(rate: u8) -> u16
-    ensures { λ r. ⌜ r ≡ ticksOf rate ⌝ }
+    ensures { λ r. ⌜ r ≡ ticksPerStep rate ⌝ }
 {
     if 15 < rate {
         return 0;
@@ -211,7 +211,7 @@ fn remembered(target: Step, last: Step) -> Step
 }
 
 fn moved(from: Step, last: Step, target: Step, ticks: u16) -> Dimmer
-    ensures { λ r. ⌜ r ≡ moved from last target ticks ⌝ }
+    ensures { λ r. ⌜ r ≡ headingTo from last target ticks ⌝ }
 {
     if ticks == 0 {
         return Dimmer {
@@ -239,7 +239,7 @@ fn moved(from: Step, last: Step, target: Step, ticks: u16) -> Dimmer
 }
 
 fn blink_ticks(value: u8) -> u16
-    ensures { λ r. ⌜ r ≡ blinkTicks value ⌝ }
+    ensures { λ r. ⌜ r ≡ flipTicks value ⌝ }
 {
     if value == 0 {
         return 120;

@@ -34,17 +34,17 @@ use Rattle.switch.specs.Code.{lived}
 use Rattle.switch.specs.declared.Live.{Live}
 use Rattle.switch.specs.declared.Answer.{Answer as SwitchAnswer}
 use Rattle.switch.specs.declared.Outcome.{Outcome}
-use Rattle.host.specs.Mirror.{truth, bit, modeOf, modeNumber, colourOf, colourNumber, motionOf, kindNumber}
-use Rattle.host.specs.Mirror.{huePlace, leftPlace, modePlace, periodPlace, targetPlace}
-use Rattle.host.specs.Mirror.{paddleOf, paddlesOf, dimmerOf, lampOf, coreOf, passwordOf, liveOf, answerOf, switchAnswer}
-use Rattle.host.specs.Keeping.{kept, keptFlag, keptMode, keptHue, keptKind, keptCourse, keptTarget, keptTimes, keptAllTimes, keptTimers, keptRun, keptCounters}
+use Rattle.host.specs.Mirror.{truth, flagNumber, modeOf, modeNumber, colourFrom, colourNumber, motionOf, kindNumber}
+use Rattle.host.specs.Mirror.{hueIndex, leftIndex, modeIndex, periodIndex, targetIndex}
+use Rattle.host.specs.Mirror.{paddleFrom, paddlesOf, dimmerOf, lampOf, coreOf, passwordOf, liveFrom, inNumbers, switchAnswer}
+use Rattle.host.specs.Keeping.{keptAt, keptFlag, keptMode, keptHue, keptKind, keptCourse, keptTarget, keptTimes, keptAllTimes, keptTimers, keptRun, keptCounters}
 use Rattle.host.specs.Keeping.{keptPaddle, keptPaddles, keptPassword, keptDimmer, keptCore, keptNumbers}
-use Rattle.host.specs.Host.{inside, Begins, KeepsWhatItRead, MirrorsBack, OneOutcome, RefusedStartLeavesAll, Speaks, StartForgets, Tells}
+use Rattle.host.specs.Host.{inside, Begins, KeepsWhatItRead, MirrorsBack, SpeaksOneWay, RefusedStartLeavesAll, Speaks, StartForgets, Tells}
 use Rattle.host.specs.declared.Answer.{Answer}
 
 -- Each type in numbers and back.
-bit-back : (flag : Bool) → truth (bit flag) ≡ flag
-unfolding truth bit
+bit-back : (flag : Bool) → truth (flagNumber flag) ≡ flag
+unfolding truth flagNumber
 bit-back true = refl
 bit-back false = refl
 
@@ -54,8 +54,8 @@ mode-back Normal = refl
 mode-back Setup = refl
 mode-back Factory = refl
 
-colour-back : (colour : Colour) → colourOf (colourNumber colour) ≡ colour
-unfolding colourOf colourNumber
+colour-back : (colour : Colour) → colourFrom (colourNumber colour) ≡ colour
+unfolding colourFrom colourNumber
 colour-back Black = refl
 colour-back Red = refl
 colour-back Green = refl
@@ -70,14 +70,14 @@ kept-back X read tell law x old =
     (λ same. sym (law (read old)) ∙ (ap read (eqb-true _ _ same) ∙ law x))
     (λ other. law x)
 
-flag-kept : (flag : Bool) (old : ℕ) → truth (if eqb (bit (truth old)) (bit flag) then old else bit flag) ≡ flag
-flag-kept = kept-back Bool truth bit bit-back
+flag-kept : (flag : Bool) (old : ℕ) → truth (if eqb (flagNumber (truth old)) (flagNumber flag) then old else flagNumber flag) ≡ flag
+flag-kept = kept-back Bool truth flagNumber bit-back
 
 mode-kept : (mode : Mode) (old : ℕ) → modeOf (if eqb (modeNumber (modeOf old)) (modeNumber mode) then old else modeNumber mode) ≡ mode
 mode-kept = kept-back Mode modeOf modeNumber mode-back
 
-hue-kept : (hue : Colour) (old : ℕ) → colourOf (if eqb (colourNumber (colourOf old)) (colourNumber hue) then old else colourNumber hue) ≡ hue
-hue-kept = kept-back Colour colourOf colourNumber colour-back
+hue-kept : (hue : Colour) (old : ℕ) → colourFrom (if eqb (colourNumber (colourFrom old)) (colourNumber hue) then old else colourNumber hue) ≡ hue
+hue-kept = kept-back Colour colourFrom colourNumber colour-back
 
 -- A motion as its kind's two tests pick it.
 abbrev picked : Bool → Bool → ℕ → ℕ → ℕ → Motion
@@ -144,8 +144,8 @@ assembled w mode level last motion lamp save top bottom = lived w (core mode (di
 spread-back :
     (w : Password) (mode : Mode) (level last : Step) (motion : Motion) (lamp : Lamp) (save : ℕ) (top bottom : Paddle) (counters numbers : List ℕ)
     → let l = assembled w mode level last motion lamp save top bottom in
-    liveOf (keptCounters l (spread 11 counters)) (keptNumbers l (spread 14 numbers)) ≡ l
-unfolding liveOf coreOf dimmerOf lampOf passwordOf paddlesOf paddleOf keptCounters keptRun keptTimers keptCourse keptAllTimes keptTimes keptNumbers keptCore keptDimmer keptKind keptTarget keptHue keptMode keptPassword keptPaddles keptPaddle keptFlag kept
+    liveFrom (keptCounters l (spread 11 counters)) (keptNumbers l (spread 14 numbers)) ≡ l
+unfolding liveFrom coreOf dimmerOf lampOf passwordOf paddlesOf paddleFrom keptCounters keptRun keptTimers keptCourse keptAllTimes keptTimes keptNumbers keptCore keptDimmer keptKind keptTarget keptHue keptMode keptPassword keptPaddles keptPaddle keptFlag keptAt
 spread-back w mode level last Idle lamp save top bottom counters numbers = simp (flag-kept, mode-kept, hue-kept, motion-kept, idle-told)
 spread-back w mode level last (Fading target period left) lamp save top bottom counters numbers =
     simp (flag-kept, mode-kept, hue-kept, motion-kept, fading-told)
@@ -154,7 +154,7 @@ spread-back w mode level last (Blinking period left) lamp save top bottom counte
 
 back-of :
     (w : Password) (c : Core) (ps : List Paddle) (counters numbers : List ℕ) → length ps ≡ 2
-    → liveOf (keptCounters (lived w c ps) (spread 11 counters)) (keptNumbers (lived w c ps) (spread 14 numbers)) ≡ lived w c ps
+    → liveFrom (keptCounters (lived w c ps) (spread 11 counters)) (keptNumbers (lived w c ps) (spread 14 numbers)) ≡ lived w c ps
 back-of w c [] counters numbers e = absurd (omega arith)
 back-of w c (top ∷ []) counters numbers e = absurd (omega arith)
 back-of w c (top ∷ (bottom ∷ [])) counters numbers e =
@@ -163,12 +163,12 @@ back-of w c (top ∷ (bottom ∷ (p ∷ ps))) counters numbers e = absurd (omega
 
 live-back :
     (counters numbers : List ℕ) (l : Live) → length counters ≡ 11 → length numbers ≡ 14 → length (l .paddles) ≡ 2
-    → liveOf (keptCounters l counters) (keptNumbers l numbers) ≡ l
+    → liveFrom (keptCounters l counters) (keptNumbers l numbers) ≡ l
 live-back counters numbers l h k two =
     rw (spread-all 11 counters h, spread-all 14 numbers k) (back-of (l .password) (l .core) (l .paddles) counters numbers two)
 
-answer-back : (a : SwitchAnswer) → switchAnswer (answerOf a) ≡ a
-unfolding switchAnswer answerOf
+answer-back : (a : SwitchAnswer) → switchAnswer (inNumbers a) ≡ a
+unfolding switchAnswer inNumbers
 answer-back a = rw (colour-back (a .colour), mode-back (a .mode))
 
 -- What is kept leaves as many counters and numbers as there were.
@@ -189,40 +189,40 @@ unfolding keptCounters keptAllTimes keptTimes keptRun keptTimers
 counters-length live l = simp (length-set, course-length)
 
 pub numbers-length : (live : Live) (l : List ℕ) → length (keptNumbers live l) ≡ length l
-unfolding keptNumbers keptPaddles keptPaddle keptFlag keptCore keptDimmer keptKind keptHue keptMode kept keptPassword
+unfolding keptNumbers keptPaddles keptPaddle keptFlag keptCore keptDimmer keptKind keptHue keptMode keptAt keptPassword
 numbers-length live l = simp (length-set, target-length)
 
 pub mirrors-back : MirrorsBack
 mirrors-back = record { live = live-back; answer = answer-back }
 
 -- Keeping what stands there changes nothing: a number, a paddle's counters and numbers, the core's, the password.
-kept-same : (n place : ℕ) (l : List ℕ) → kept n n place l ≡ l
-unfolding kept
+kept-same : (n place : ℕ) (l : List ℕ) → keptAt n n place l ≡ l
+unfolding keptAt
 kept-same n place l = rw (eq-eqb n n refl, set-getD l place 0)
 
-pub times-same : (i : ℕ) (counters numbers : List ℕ) → keptTimes i (paddleOf i counters numbers) counters ≡ counters
-unfolding keptTimes paddleOf
+pub times-same : (i : ℕ) (counters numbers : List ℕ) → keptTimes i (paddleFrom i counters numbers) counters ≡ counters
+unfolding keptTimes paddleFrom
 times-same i counters numbers = simp set-getD
 
 pub all-times-same : (counters numbers : List ℕ) → keptAllTimes (paddlesOf counters numbers) counters ≡ counters
 unfolding keptAllTimes paddlesOf
 all-times-same counters numbers = rw (times-same 0 counters numbers, times-same 1 counters numbers)
 
-course-same : (kind target : ℕ) (l : List ℕ) → keptCourse (motionOf kind target (getD l periodPlace 0) (getD l leftPlace 0)) l ≡ l
+course-same : (kind target : ℕ) (l : List ℕ) → keptCourse (motionOf kind target (getD l periodIndex 0) (getD l leftIndex 0)) l ≡ l
 unfolding motionOf keptCourse
 course-same kind target l = go (eqb kind 1) (eqb kind 2)
   where
-    go : (a b : Bool) → keptCourse (picked a b target (getD l periodPlace 0) (getD l leftPlace 0)) l ≡ l
+    go : (a b : Bool) → keptCourse (picked a b target (getD l periodIndex 0) (getD l leftIndex 0)) l ≡ l
     go true b = simp set-getD
     go false true = simp set-getD
     go false false = refl
 
-target-same : (kind period left : ℕ) (l : List ℕ) → keptTarget (motionOf kind (getD l targetPlace 0) period left) l ≡ l
+target-same : (kind period left : ℕ) (l : List ℕ) → keptTarget (motionOf kind (getD l targetIndex 0) period left) l ≡ l
 unfolding motionOf keptTarget
 target-same kind period left l = go (eqb kind 1) (eqb kind 2)
   where
-    go : (a b : Bool) → keptTarget (picked a b (getD l targetPlace 0) period left) l ≡ l
-    go true b = set-getD l targetPlace 0
+    go : (a b : Bool) → keptTarget (picked a b (getD l targetIndex 0) period left) l ≡ l
+    go true b = set-getD l targetIndex 0
     go false true = refl
     go false false = refl
 
@@ -238,11 +238,11 @@ pub dimmer-same : (counters numbers : List ℕ) → keptDimmer (dimmerOf counter
 unfolding keptDimmer keptKind dimmerOf
 dimmer-same counters numbers = simp (set-getD, target-same, kind-alone, kept-same)
 
-pub mode-same : (l : List ℕ) → keptMode (modeOf (getD l modePlace 0)) l ≡ l
+pub mode-same : (l : List ℕ) → keptMode (modeOf (getD l modeIndex 0)) l ≡ l
 unfolding keptMode
 mode-same l = kept-same _ _ l
 
-pub hue-same : (l : List ℕ) → keptHue (colourOf (getD l huePlace 0)) l ≡ l
+pub hue-same : (l : List ℕ) → keptHue (colourFrom (getD l hueIndex 0)) l ≡ l
 unfolding keptHue
 hue-same l = kept-same _ _ l
 
@@ -250,8 +250,8 @@ pub core-same : (counters numbers : List ℕ) → keptCore (coreOf counters numb
 unfolding keptCore coreOf lampOf
 core-same counters numbers = rw (mode-same numbers, hue-same numbers, dimmer-same counters numbers)
 
-pub paddle-same : (i : ℕ) (counters numbers : List ℕ) → keptPaddle i (paddleOf i counters numbers) numbers ≡ numbers
-unfolding keptPaddle keptFlag paddleOf
+pub paddle-same : (i : ℕ) (counters numbers : List ℕ) → keptPaddle i (paddleFrom i counters numbers) numbers ≡ numbers
+unfolding keptPaddle keptFlag paddleFrom
 paddle-same i counters numbers = simp (kept-same, set-getD)
 
 pub paddles-same : (counters numbers : List ℕ) → keptPaddles (paddlesOf counters numbers) numbers ≡ numbers
@@ -259,7 +259,7 @@ unfolding keptPaddles paddlesOf
 paddles-same counters numbers = rw (paddle-same 0 counters numbers, paddle-same 1 counters numbers)
 
 pub keeps-what-it-read : KeepsWhatItRead
-unfolding keptCounters keptNumbers liveOf
+unfolding keptCounters keptNumbers liveFrom
 keeps-what-it-read =
     record {
       counters = λ counters numbers. rw (run-same counters numbers, all-times-same counters numbers);
@@ -269,14 +269,14 @@ keeps-what-it-read =
 -- An event in numbers is the switch's own.
 pub speaks :
     (deed : Deed) (counters numbers all out : List ℕ) (live : Live) (o : Outcome) (r : Answer) (counters′ numbers′ all′ out′ : List ℕ)
-    → live ≡ liveOf counters numbers
+    → live ≡ liveFrom counters numbers
     → Responds deed live all out (o .answer) (o .live) all′ out′
     → Tells o counters numbers r counters′ numbers′
     → Speaks deed counters numbers all out r counters′ numbers′ all′ out′
 speaks deed counters numbers all out live o r counters′ numbers′ all′ out′ read responds tells =
     let h = rw read at responds in
     record {
-      answered = tells .answered ∙ ap answerOf (h .answered);
+      answered = tells .answered ∙ ap inNumbers (h .answered);
       counted = tells .counted ∙ ap (λ (s : Switch Plain). keptCounters (inside s) counters) (h .next);
       numbered = tells .numbered ∙ ap (λ (s : Switch Plain). keptNumbers (inside s) numbers) (h .next);
       registers = ap (λ (s : Switch Plain). s .plain .registers) (h .next);
@@ -301,7 +301,7 @@ unfolding startNext
 begins image counters numbers all o r counters′ numbers′ all′ long h tells =
     let same : held (o .live) all′ ≡ startedFrom image = h .next ∙ rw (eq-eqb (length image) size long) in
     record {
-      answered = tells .answered ∙ ap answerOf (h .answered);
+      answered = tells .answered ∙ ap inNumbers (h .answered);
       counted =
           tells .counted ∙ ap (λ (s : Switch Plain). keptCounters (inside s) (replicate 11 0)) same ∙ sym (if-whole image _ counters long);
       numbered =
@@ -313,22 +313,22 @@ pub begins-none :
     (image counters numbers all : List ℕ) (answer : SwitchAnswer) (live : Live) (r : Answer) (all′ : List ℕ)
     → (length image ≡ size → ⊥)
     → Starts image all answer live all′
-    → r ≡ answerOf answer
+    → r ≡ inNumbers answer
     → Begins image counters numbers all r counters numbers all′
 unfolding startNext
 begins-none image counters numbers all answer live r all′ other h told =
     let same : held live all′ ≡ held nobody all = h .next ∙ rw (ne-eqb (length image) size other) in
     record {
-      answered = told ∙ ap answerOf (h .answered);
+      answered = told ∙ ap inNumbers (h .answered);
       counted = sym (unless-whole image _ counters other);
       numbered = sym (unless-whole image _ numbers other);
       registers = ap (λ (s : Switch Plain). s .plain .registers) same ∙ sym (unless-whole image _ all other);
     }
 
 pub refused-start-leaves-all : RefusedStartLeavesAll
-unfolding startAnswer answerOf
+unfolding startAnswer inNumbers
 refused-start-leaves-all image counters numbers all r c n a other b =
-    let told : r ≡ answerOf noAnswer = b .answered ∙ rw (ne-eqb (length image) size other) in (
+    let told : r ≡ inNumbers noAnswer = b .answered ∙ rw (ne-eqb (length image) size other) in (
       ap (λ (x : Answer). x .number) told,
       (
         b .counted ∙ unless-whole image _ counters other,
@@ -348,7 +348,7 @@ start-forgets image long counters numbers all r c n a x counters′ numbers′ a
   ),
 )
 
-pub one-outcome : OneOutcome
+pub one-outcome : SpeaksOneWay
 one-outcome = record {
   event = λ deed counters numbers all out r s c c′ n n′ a a′ o o′ x y. (
     only r s (x .answered) (y .answered),

@@ -19,9 +19,9 @@ use Rattle.dimmer.specs.Dimmer.{dimmer, faded, flickered, stepped, ticked, tick
 use Rattle.dimmer.specs.declared.Dimmer.{Dimmer}
 use Rattle.dimmer.specs.declared.Motion.{Motion}
 use Rattle.dimmer.specs.declared.Motion.the-variants.{Idle, Fading, Blinking}
-use Rattle.lamp.specs.Lamp.{next as lampNext}
-use Rattle.paddle.specs.Paddle.{closing, completed, down, ends, fresh, gesture, gestureUp, next, none, pressed, released, turn}
-use Rattle.paddle.specs.Paddle.{kept as keptTaps}
+use Rattle.lamp.specs.Lamp.{nextLamp}
+use Rattle.paddle.specs.Paddle.{closing, completed, down, ends, freshPaddle, gesture, gestureUp, nextPaddle, completesNothing, pressed, released, turn}
+use Rattle.paddle.specs.Paddle.{tapsKept}
 use Rattle.paddle.specs.declared.Contact.{Contact}
 use Rattle.paddle.specs.declared.Gesture.the-variants.{Nothing, Taps, Hold}
 use Rattle.paddle.specs.declared.Paddle.{Paddle}
@@ -39,8 +39,8 @@ use Rattle.switch.specs.declared.Sent.{Sent}
 use Rattle.switch.specs.declared.paddles.Recognised.{Recognised}
 use Rattle.switch.specs.declared.receive.Handled.{Handled}
 use Rattle.switch.proofs.Quick.{plainly, quick-press, quick-release, quick-tick}
-use Rattle.host.specs.Mirror.{kindPlace, lastPlace, levelPlace, savePlace, targetPlace, motionOf, paddleOf, paddlesOf, dimmerOf, lampOf, coreOf, passwordOf, liveOf, answerOf}
-use Rattle.host.specs.Keeping.{kept, keptFlag, keptMode, keptHue, keptKind, keptCourse, keptTarget, keptTimers, keptRun, keptTimes, keptAllTimes, keptCounters}
+use Rattle.host.specs.Mirror.{kindIndex, lastIndex, levelIndex, saveIndex, targetIndex, motionOf, paddleFrom, paddlesOf, dimmerOf, lampOf, coreOf, passwordOf, liveFrom, inNumbers}
+use Rattle.host.specs.Keeping.{keptAt, keptFlag, keptMode, keptHue, keptKind, keptCourse, keptTarget, keptTimers, keptRun, keptTimes, keptAllTimes, keptCounters}
 use Rattle.host.specs.Keeping.{keptPaddle, keptPaddles, keptPassword, keptDimmer, keptCore, keptNumbers, keptStep}
 use Rattle.host.specs.Host.{inside, responded, Speaks}
 use Rattle.host.specs.declared.Answer.{Answer}
@@ -79,7 +79,7 @@ target-after (Fading target period left) l place low = elsewhere l 11 (target .0
 target-after (Blinking period left) l place low = refl
 
 core-after : (c : Core) (w : Password) (l : List ℕ) (place : ℕ) → place < 6 → getD (keptCore c (keptPassword w l)) place 0 ≡ getD l place 0
-unfolding keptCore keptDimmer keptKind keptHue keptMode keptPassword kept
+unfolding keptCore keptDimmer keptKind keptHue keptMode keptPassword keptAt
 core-after c w l place low =
     rw (
       elsewhere _ 7 _ place (λ e. omega arith),
@@ -95,8 +95,8 @@ core-after c w l place low =
 -- So the paddles are read the same behind all of these.
 paddle-apart :
     (i : ℕ) (c : Core) (w : Password) (counters numbers : List ℕ) → i < 2
-    → paddleOf i (keptRun c counters) (keptCore c (keptPassword w numbers)) ≡ paddleOf i counters numbers
-unfolding paddleOf
+    → paddleFrom i (keptRun c counters) (keptCore c (keptPassword w numbers)) ≡ paddleFrom i counters numbers
+unfolding paddleFrom
 paddle-apart i c w counters numbers h =
     rw (
       run-apart c counters (6 + i) (omega arith) (omega arith),
@@ -127,8 +127,8 @@ unfolding keptNumbers
 alone-numbers c w counters numbers = rw (← paddles-apart c w counters numbers) (paddles-same _ (keptCore c (keptPassword w numbers)))
 
 -- One paddle of the two alone changes: a press, or a release that completes no gesture.
-other-apart : (p : Paddle) (counters numbers : List ℕ) → paddleOf 1 (keptTimes 0 p counters) (keptPaddle 0 p numbers) ≡ paddleOf 1 counters numbers
-unfolding paddleOf keptTimes keptPaddle keptFlag kept
+other-apart : (p : Paddle) (counters numbers : List ℕ) → paddleFrom 1 (keptTimes 0 p counters) (keptPaddle 0 p numbers) ≡ paddleFrom 1 counters numbers
+unfolding paddleFrom keptTimes keptPaddle keptFlag keptAt
 other-apart p counters numbers =
     rw (
       elsewhere _ 8 _ 7 (λ e. omega arith),
@@ -170,61 +170,61 @@ edge-numbers :
 unfolding keptNumbers
 edge-numbers i p counters numbers h = rw (password-same numbers, core-same counters numbers) (one-paddle i p counters numbers h)
 
-paddle-at : (i : ℕ) (counters numbers : List ℕ) → i < 2 → getD (paddlesOf counters numbers) i fresh ≡ paddleOf i counters numbers
+paddle-at : (i : ℕ) (counters numbers : List ℕ) → i < 2 → getD (paddlesOf counters numbers) i freshPaddle ≡ paddleFrom i counters numbers
 unfolding paddlesOf
 paddle-at zero counters numbers h = refl
 paddle-at (suc zero) counters numbers h = refl
 paddle-at (suc (suc i)) counters numbers h = absurd (omega arith)
 
 -- A tick that completes no gesture leaves the taps, and with them every number of the paddles.
-taps-stay : (p : Paddle) → none (gesture p) ≡ true → keptTaps p ≡ p .taps
-unfolding keptTaps gesture completed closing none
+taps-stay : (p : Paddle) → completesNothing (gesture p) ≡ true → tapsKept p ≡ p .taps
+unfolding tapsKept gesture completed closing completesNothing
 taps-stay p h = go (ends p) (down p) (eqb (p .taps) 0) refl h
   where
-    go : (e d z : Bool) → eqb (p .taps) 0 ≡ z → none (if e then (if d then Hold else if z then Nothing else Taps (p .taps)) else Nothing) ≡ true
+    go : (e d z : Bool) → eqb (p .taps) 0 ≡ z → completesNothing (if e then (if d then Hold else if z then Nothing else Taps (p .taps)) else Nothing) ≡ true
         → (if e then 0 else p .taps) ≡ p .taps
     go false d z same h = refl
     go true true z same h = absurd (true≢false (sym h))
     go true false true same h = sym (eqb-true (p .taps) 0 same)
     go true false false same h = absurd (true≢false (sym h))
 
-still-kept : (i : ℕ) (p : Paddle) (l : List ℕ) → none (gesture p) ≡ true → keptPaddle i (next p) l ≡ keptPaddle i p l
-unfolding keptPaddle next
+still-kept : (i : ℕ) (p : Paddle) (l : List ℕ) → completesNothing (gesture p) ≡ true → keptPaddle i (nextPaddle p) l ≡ keptPaddle i p l
+unfolding keptPaddle nextPaddle
 still-kept i p l h = rw (taps-stay p h)
 
 quiet-kept :
     (counters numbers l : List ℕ) → quiet (paddlesOf counters numbers) ≡ true
-    → keptPaddles (map next (paddlesOf counters numbers)) l ≡ keptPaddles (paddlesOf counters numbers) l
+    → keptPaddles (map nextPaddle (paddlesOf counters numbers)) l ≡ keptPaddles (paddlesOf counters numbers) l
 unfolding keptPaddles paddlesOf quiet
 quiet-kept counters numbers l h =
     let top = and-eq-true-iff _ _ .0 h in
     let bottom = and-eq-true-iff _ _ .0 (top .1) in
-    rw (still-kept 0 (paddleOf 0 counters numbers) l (top .0), still-kept 1 (paddleOf 1 counters numbers) _ (bottom .0))
+    rw (still-kept 0 (paddleFrom 0 counters numbers) l (top .0), still-kept 1 (paddleFrom 1 counters numbers) _ (bottom .0))
 
 -- A tick of the dimmer changes the level and the kind of motion, and these only where something runs.
 moved : (level : Step) (m : Motion) (l : List ℕ) → keptTarget m l ≡ l
-    → keptDimmer (dimmer level (step (getD l lastPlace 0)) m) l ≡ keptKind m (set l levelPlace (level .0))
+    → keptDimmer (dimmer level (step (getD l lastIndex 0)) m) l ≡ keptKind m (set l levelIndex (level .0))
 unfolding keptDimmer
-moved level m l h = rw (set-getD l lastPlace 0, h)
+moved level m l h = rw (set-getD l lastIndex 0, h)
 
 ticked-moved :
     (level : Step) (period left : ℕ) (kind : ℕ) (l : List ℕ)
-    → let d = tickedFrom level (step (getD l lastPlace 0)) (motionOf kind (getD l targetPlace 0) period left) in
-    keptDimmer d l ≡ keptKind (d .motion) (set l levelPlace (d .level .0))
+    → let d = tickedFrom level (step (getD l lastIndex 0)) (motionOf kind (getD l targetIndex 0) period left) in
+    keptDimmer d l ≡ keptKind (d .motion) (set l levelIndex (d .level .0))
 unfolding motionOf tickedFrom faded stepped flickered keptTarget
 ticked-moved level period left kind l = go (eqb kind 1) (eqb kind 2)
   where
     target : Step
-    target = step (getD l targetPlace 0)
+    target = step (getD l targetIndex 0)
 
     last : Step
-    last = step (getD l lastPlace 0)
+    last = step (getD l lastIndex 0)
 
     P : Dimmer → Type 0
-    P d = keptDimmer d l ≡ keptKind (d .motion) (set l levelPlace (d .level .0))
+    P d = keptDimmer d l ≡ keptKind (d .motion) (set l levelIndex (d .level .0))
 
     fading : (level : Step) (left : ℕ) → P (dimmer level last (Fading target period left))
-    fading level left = moved level (Fading target period left) l (set-getD l targetPlace 0)
+    fading level left = moved level (Fading target period left) l (set-getD l targetIndex 0)
 
     go : (a b : Bool) → P (tickedFrom level last (if a then Fading target period left else if b then Blinking period left else Idle))
     go true b =
@@ -242,18 +242,18 @@ at-rest level last kind target period left h = rw h
 step-same : (counters numbers : List ℕ) → keptDimmer (ticked (dimmerOf counters numbers)) numbers ≡ keptStep (ticked (dimmerOf counters numbers)) numbers
 unfolding keptStep ticked dimmerOf
 step-same counters numbers =
-    cases (λ (l : List ℕ). keptDimmer (ticked (dimmerOf counters numbers)) numbers ≡ l) (eqb (getD numbers kindPlace 0) 0)
-    (λ rest. rw (at-rest _ _ _ _ _ _ (eqb-true (getD numbers kindPlace 0) 0 rest)) (dimmer-same counters numbers))
+    cases (λ (l : List ℕ). keptDimmer (ticked (dimmerOf counters numbers)) numbers ≡ l) (eqb (getD numbers kindIndex 0) 0)
+    (λ rest. rw (at-rest _ _ _ _ _ _ (eqb-true (getD numbers kindIndex 0) 0 rest)) (dimmer-same counters numbers))
     (λ runs. ticked-moved _ _ _ _ numbers)
 
 passed-core : (counters numbers : List ℕ) → keptCore (passedCore (coreOf counters numbers)) numbers ≡ keptStep (ticked (dimmerOf counters numbers)) numbers
-unfolding keptCore passedCore aged lampNext coreOf lampOf
+unfolding keptCore passedCore aged nextLamp coreOf lampOf
 passed-core counters numbers = rw (mode-same numbers, hue-same numbers) (step-same counters numbers)
 
 -- The same of a whole tick.
 passed-numbers :
     (counters numbers : List ℕ) → quiet (paddlesOf counters numbers) ≡ true
-    → keptNumbers (lived (passwordOf numbers) (passedCore (coreOf counters numbers)) (map next (paddlesOf counters numbers))) numbers
+    → keptNumbers (lived (passwordOf numbers) (passedCore (coreOf counters numbers)) (map nextPaddle (paddlesOf counters numbers))) numbers
     ≡ keptStep (ticked (dimmerOf counters numbers)) numbers
 unfolding keptNumbers
 passed-numbers counters numbers still =
@@ -267,7 +267,7 @@ passed-numbers counters numbers still =
 plainly-speaks :
     (deed : Deed) (counters numbers all out : List ℕ) (c : Core) (ps : List Paddle) (r : Answer) (counters′ numbers′ : List ℕ)
     → responded deed counters numbers all (length out) ≡ plainly (plain all c ps) (passwordOf numbers)
-    → r ≡ answerOf (answerWith 0 (tally []) all c)
+    → r ≡ inNumbers (answerWith 0 (tally []) all c)
     → counters′ ≡ keptCounters (lived (passwordOf numbers) c ps) counters
     → numbers′ ≡ keptNumbers (lived (passwordOf numbers) c ps) numbers
     → Speaks deed counters numbers all out r counters′ numbers′ all out
@@ -289,29 +289,29 @@ pub edge-speaks :
     → answer ≡ answerWith 0 sent all c
     → counters′ ≡ keptTimes i p counters
     → numbers′ ≡ keptPaddle i p numbers
-    → r ≡ answerOf answer
+    → r ≡ inNumbers answer
     → Speaks deed counters numbers all out r counters′ numbers′ all out
-edge-speaks deed counters numbers all out i p c sent answer r counters′ numbers′ small e core none show x y told =
+edge-speaks deed counters numbers all out i p c sent answer r counters′ numbers′ small e core completesNothing show x y told =
     plainly-speaks deed counters numbers all out (coreOf counters numbers) (set (paddlesOf counters numbers) i p) r counters′ numbers′ e
-    (told ∙ rw (show, none, core))
+    (told ∙ rw (show, completesNothing, core))
     (x ∙ sym (edge-counters i p counters numbers small))
     (y ∙ sym (edge-numbers i p counters numbers small))
 
 module _ (contact : ℕ) (counters numbers all : List ℕ) (before : Paddle) (kind : Contact) (room : ℕ) (enough : 48 ≤ room) (known : contact ≤ 3)
-    (read : before ≡ paddleOf (contact % 2) counters numbers) (told : kind ≡ kindOf contact) where
+    (read : before ≡ paddleFrom (contact % 2) counters numbers) (told : kind ≡ kindOf contact) where
   pub press-responded : (p : Paddle) → p ≡ pressed kind before → Plainly (press contact) counters numbers all room (contact % 2) p
-  unfolding liveOf pressedAt paddleNumber
+  unfolding liveFrom pressedAt paddleNumber
   press-responded p e =
       quick-press all (coreOf counters numbers) (paddlesOf counters numbers) (passwordOf numbers) room enough contact known
       ∙ rw (paddle-at (contact % 2) counters numbers (omega arith), e, told, read)
 
   pub release-responded :
-      (t : Turn) (still : Bool) → t ≡ turn (released kind before) (gestureUp kind before) → still ≡ none (t .gesture) → still ≡ true
+      (t : Turn) (still : Bool) → t ≡ turn (released kind before) (gestureUp kind before) → still ≡ completesNothing (t .gesture) → still ≡ true
       → Plainly (release contact) counters numbers all room (contact % 2) (t .paddle)
-  unfolding liveOf releasedAt gestureAt paddleNumber
+  unfolding liveFrom releasedAt gestureAt paddleNumber
   release-responded t still e nothing h =
       let at = paddle-at (contact % 2) counters numbers (omega arith) in
-      let quietly : none (gestureAt contact (paddlesOf counters numbers)) ≡ true = rw (at, ← read, ← told) (ap (λ (x : Turn). none (x .gesture)) (sym e) ∙ (sym nothing ∙ h)) in
+      let quietly : completesNothing (gestureAt contact (paddlesOf counters numbers)) ≡ true = rw (at, ← read, ← told) (ap (λ (x : Turn). completesNothing (x .gesture)) (sym e) ∙ (sym nothing ∙ h)) in
       quick-release all (coreOf counters numbers) (paddlesOf counters numbers) (passwordOf numbers) room enough contact known quietly
       ∙ rw (at, e, told, read)
 
@@ -321,28 +321,28 @@ pub tick-speaks :
     (counters₁ counters′ numbers′ : List ℕ) (r : Answer)
     → let c′ = core (old .mode) (old .dimmer) (old .lamp) save in
     48 ≤ length out
-    → (getD counters savePlace 0 ≡ 0 → ⊥)
+    → (getD counters saveIndex 0 ≡ 0 → ⊥)
     → before ≡ paddlesOf counters numbers
-    → now ≡ recognised (map next before) (quiet before)
+    → now ≡ recognised (map nextPaddle before) (quiet before)
     → now .quiet ≡ true
     → c ≡ coreOf counters numbers
     → old ≡ aged c
-    → save ≡ less (getD counters savePlace 0)
+    → save ≡ less (getD counters saveIndex 0)
     → sent ≡ tally []
     → answer ≡ answerWith 0 sent all c′
     → counters₁ ≡ keptRun c′ counters
     → counters′ ≡ keptAllTimes (now .paddles) counters₁
     → numbers′ ≡ keptStep (c′ .dimmer) numbers
-    → r ≡ answerOf answer
+    → r ≡ inNumbers answer
     → Speaks tick counters numbers all out r counters′ numbers′ all out
-unfolding liveOf coreOf passedCore aged keptCounters
-tick-speaks counters numbers all out before now c old save sent answer counters₁ counters′ numbers′ r room unsaved read recognise still whole age saved none show run times stepped told =
+unfolding liveFrom coreOf passedCore aged keptCounters
+tick-speaks counters numbers all out before now c old save sent answer counters₁ counters′ numbers′ r room unsaved read recognise still whole age saved completesNothing show run times stepped told =
     let ps = paddlesOf counters numbers in
     let same : old ≡ aged (coreOf counters numbers) = age ∙ rw whole in
     let quietly : quiet ps ≡ true = rw (← read) (ap (λ (x : Recognised). x .quiet) (sym recognise) ∙ still) in
-    plainly-speaks tick counters numbers all out (passedCore (coreOf counters numbers)) (map next ps) r counters′ numbers′
+    plainly-speaks tick counters numbers all out (passedCore (coreOf counters numbers)) (map nextPaddle ps) r counters′ numbers′
     (quick-tick all (coreOf counters numbers) ps (passwordOf numbers) (length out) room (omega arith) quietly)
-    (told ∙ rw (show, none, same, saved))
+    (told ∙ rw (show, completesNothing, same, saved))
     (times ∙ rw (run, recognise, read, same, saved))
     (stepped ∙ rw same (sym (passed-numbers counters numbers quietly)))
 
@@ -355,14 +355,14 @@ pub receive-speaks :
     → counters′ ≡ keptRun (h .core) counters
     → numbers₁ ≡ keptPassword (h .password) numbers
     → numbers′ ≡ keptCore (h .core) numbers₁
-    → r ≡ answerOf (h .answer)
+    → r ≡ inNumbers (h .answer)
     → Speaks (receive bytes) counters numbers all out r counters′ numbers′ all′ out′
-unfolding liveOf
+unfolding liveFrom
 receive-speaks bytes counters numbers all out c w h counters′ numbers₁ numbers′ all′ out′ r core password handles run secret rest told =
     let ps = paddlesOf counters numbers in
     let leads = rw (core, password) at handles in
     record {
-      answered = told ∙ ap answerOf (leads .answered ps);
+      answered = told ∙ ap inNumbers (leads .answered ps);
       counted = run ∙ (sym (alone-counters (h .core) (h .password) counters numbers) ∙ ap (λ (s : Switch Plain). keptCounters (inside s) counters) (leads .next ps));
       numbered = rest ∙ (rw secret (sym (alone-numbers (h .core) (h .password) counters numbers)) ∙ ap (λ (s : Switch Plain). keptNumbers (inside s) numbers) (leads .next ps));
       registers = ap (λ (s : Switch Plain). s .plain .registers) (leads .next ps);

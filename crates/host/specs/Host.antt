@@ -12,7 +12,7 @@ use Rattle.switch.specs.Respond.{respond, startAnswer, startedFrom, whole}
 use Rattle.switch.specs.declared.Live.{Live}
 use Rattle.switch.specs.declared.Answer.{Answer as SwitchAnswer}
 use Rattle.switch.specs.declared.Outcome.{Outcome}
-use Rattle.host.specs.Mirror.{answerOf, liveOf, switchAnswer}
+use Rattle.host.specs.Mirror.{inNumbers, liveFrom, switchAnswer}
 use Rattle.host.specs.Keeping.{keptCounters, keptNumbers}
 use Rattle.host.specs.declared.Answer.{Answer}
 
@@ -22,11 +22,11 @@ inside s = record { password = s .password; core = s .plain .core; paddles = s .
 
 -- What the switch that these numbers stand for answers to an event with so much room.
 abbrev pub responded : Deed → List ℕ → List ℕ → List ℕ → ℕ → Answered Plain Shown
-responded deed counters numbers all room = respond (held (liveOf counters numbers) all) (event room deed)
+responded deed counters numbers all room = respond (held (liveFrom counters numbers) all) (event room deed)
 
 -- What every event function promises: the answer, every counter, number and register, and every byte of the buffer are the switch's.
 pub record Speaks (deed : Deed) (counters numbers all out : List ℕ) (answer : Answer) (counters′ numbers′ all′ out′ : List ℕ) : Type 0 where
-  pub answered : answer ≡ answerOf (responded deed counters numbers all (length out) .shown .answer)
+  pub answered : answer ≡ inNumbers (responded deed counters numbers all (length out) .shown .answer)
   pub counted : counters′ ≡ keptCounters (inside (responded deed counters numbers all (length out) .next)) counters
   pub numbered : numbers′ ≡ keptNumbers (inside (responded deed counters numbers all (length out) .next)) numbers
   pub registers : all′ ≡ responded deed counters numbers all (length out) .next .plain .registers
@@ -34,30 +34,30 @@ pub record Speaks (deed : Deed) (counters numbers all out : List ℕ) (answer : 
 
 -- What the start promises: accepted, the switch of the image is written over cleared arrays; refused, every array is as it was.
 pub record Begins (image counters numbers all : List ℕ) (answer : Answer) (counters′ numbers′ all′ : List ℕ) : Type 0 where
-  pub answered : answer ≡ answerOf (startAnswer image)
+  pub answered : answer ≡ inNumbers (startAnswer image)
   pub counted : counters′ ≡ if whole image then keptCounters (inside (startedFrom image)) (replicate 11 0) else counters
   pub numbered : numbers′ ≡ if whole image then keptNumbers (inside (startedFrom image)) (replicate 14 0) else numbers
   pub registers : all′ ≡ if whole image then startedFrom image .plain .registers else all
 
 -- An outcome of the switch, kept and told.
 pub record Tells (o : Outcome) (counters numbers : List ℕ) (answer : Answer) (counters′ numbers′ : List ℕ) : Type 0 where
-  pub answered : answer ≡ answerOf (o .answer)
+  pub answered : answer ≡ inNumbers (o .answer)
   pub counted : counters′ ≡ keptCounters (o .live) counters
   pub numbered : numbers′ ≡ keptNumbers (o .live) numbers
 
 -- Into plain numbers and back is the identity, whatever stood there: on every switch of two paddles, and on every answer.
 pub record MirrorsBack : Type 0 where
   pub live : (counters numbers : List ℕ) (l : Live) → length counters ≡ 11 → length numbers ≡ 14 → length (l .paddles) ≡ 2
-      → liveOf (keptCounters l counters) (keptNumbers l numbers) ≡ l
-  pub answer : (a : SwitchAnswer) → switchAnswer (answerOf a) ≡ a
+      → liveFrom (keptCounters l counters) (keptNumbers l numbers) ≡ l
+  pub answer : (a : SwitchAnswer) → switchAnswer (inNumbers a) ≡ a
 
 -- Keeping what was read leaves every number as it is.
 pub record KeepsWhatItRead : Type 0 where
-  pub counters : (counters numbers : List ℕ) → keptCounters (liveOf counters numbers) counters ≡ counters
-  pub numbers : (counters numbers : List ℕ) → keptNumbers (liveOf counters numbers) numbers ≡ numbers
+  pub counters : (counters numbers : List ℕ) → keptCounters (liveFrom counters numbers) counters ≡ counters
+  pub numbers : (counters numbers : List ℕ) → keptNumbers (liveFrom counters numbers) numbers ≡ numbers
 
 -- No two outcomes: what meets the contract of an event, or of the start, is one.
-pub record OneOutcome : Type 0 where
+pub record SpeaksOneWay : Type 0 where
   pub event : (deed : Deed) (counters numbers all out : List ℕ) (r s : Answer) (c c′ n n′ a a′ o o′ : List ℕ)
       → Speaks deed counters numbers all out r c n a o → Speaks deed counters numbers all out s c′ n′ a′ o′
       → (r ≡ s) × ((c ≡ c′) × ((n ≡ n′) × ((a ≡ a′) × (o ≡ o′))))

@@ -12,77 +12,77 @@ use Rattle.dimmer.specs.declared.Motion.{Motion}
 use Rattle.dimmer.specs.declared.Motion.the-variants.{Idle, Fading, Blinking}
 use Rattle.lamp.specs.declared.Colour.{Colour}
 use Rattle.lamp.specs.declared.Lamp.{Lamp}
-use Rattle.paddle.specs.Paddle.{fresh}
+use Rattle.paddle.specs.Paddle.{freshPaddle}
 use Rattle.paddle.specs.declared.Paddle.{Paddle}
 use Rattle.acts.specs.declared.Core.{Core}
 use Rattle.switch.specs.declared.Live.{Live}
-use Rattle.host.specs.Mirror.{truth, bit, modeOf, modeNumber, colourOf, colourNumber, motionOf, kindNumber}
-use Rattle.host.specs.Mirror.{versionPlace, phasePlace, blinkPlace, flashPlace, savePlace, leftPlace, holdPlace, gapPlace, periodPlace}
-use Rattle.host.specs.Mirror.{localPlace, slavePlace, tapsPlace, levelPlace, kindPlace, modePlace, huePlace, lastPlace, targetPlace, firstPlace, secondPlace}
+use Rattle.host.specs.Mirror.{truth, flagNumber, modeOf, modeNumber, colourFrom, colourNumber, motionOf, kindNumber}
+use Rattle.host.specs.Mirror.{versionIndex, phaseIndex, blinkIndex, flashIndex, saveIndex, leftIndex, holdIndex, gapIndex, periodIndex}
+use Rattle.host.specs.Mirror.{localIndex, slaveIndex, tapsIndex, levelIndex, kindIndex, modeIndex, hueIndex, lastIndex, targetIndex, firstIndex, secondIndex}
 
 -- A number that still stands for the same is left as it is: `plain` is the plain number of what stands at the place.
-unfoldable pub kept : ℕ → ℕ → ℕ → List ℕ → List ℕ
-kept plain new place l = set l place (if eqb plain new then getD l place 0 else new)
+unfoldable pub keptAt : ℕ → ℕ → ℕ → List ℕ → List ℕ
+keptAt plain new place l = set l place (if eqb plain new then getD l place 0 else new)
 
 unfoldable pub keptFlag : Bool → ℕ → List ℕ → List ℕ
-keptFlag flag place l = kept (bit (truth (getD l place 0))) (bit flag) place l
+keptFlag flag place l = keptAt (flagNumber (truth (getD l place 0))) (flagNumber flag) place l
 
 unfoldable pub keptMode : Mode → List ℕ → List ℕ
-keptMode mode l = kept (modeNumber (modeOf (getD l modePlace 0))) (modeNumber mode) modePlace l
+keptMode mode l = keptAt (modeNumber (modeOf (getD l modeIndex 0))) (modeNumber mode) modeIndex l
 
 unfoldable pub keptHue : Colour → List ℕ → List ℕ
-keptHue hue l = kept (colourNumber (colourOf (getD l huePlace 0))) (colourNumber hue) huePlace l
+keptHue hue l = keptAt (colourNumber (colourFrom (getD l hueIndex 0))) (colourNumber hue) hueIndex l
 
 unfoldable pub keptKind : Motion → List ℕ → List ℕ
-keptKind motion l = kept (kindNumber (motionOf (getD l kindPlace 0) 0 0 0)) (kindNumber motion) kindPlace l
+keptKind motion l = keptAt (kindNumber (motionOf (getD l kindIndex 0) 0 0 0)) (kindNumber motion) kindIndex l
 
 -- Of a motion only what it has is written.
 unfoldable pub keptCourse : Motion → List ℕ → List ℕ
 keptCourse Idle l = l
-keptCourse (Fading target period left) l = set (set l periodPlace period) leftPlace left
-keptCourse (Blinking period left) l = set (set l periodPlace period) leftPlace left
+keptCourse (Fading target period left) l = set (set l periodIndex period) leftIndex left
+keptCourse (Blinking period left) l = set (set l periodIndex period) leftIndex left
 
 unfoldable pub keptTarget : Motion → List ℕ → List ℕ
 keptTarget Idle l = l
-keptTarget (Fading target period left) l = set l targetPlace (target .0)
+keptTarget (Fading target period left) l = set l targetIndex (target .0)
 keptTarget (Blinking period left) l = l
 
 -- The counters: those of the lamp, of the saved level and of a motion, and those of the paddles.
 unfoldable pub keptTimers : Lamp → List ℕ → List ℕ
 keptTimers lamp l =
-    set (set (set (set l versionPlace (lamp .version)) phasePlace (lamp .phase)) blinkPlace (lamp .blink)) flashPlace (lamp .flash)
+    set (set (set (set l versionIndex (lamp .version)) phaseIndex (lamp .phase)) blinkIndex (lamp .blink)) flashIndex (lamp .flash)
 
 unfoldable pub keptRun : Core → List ℕ → List ℕ
-keptRun c l = keptCourse (c .dimmer .motion) (set (keptTimers (c .lamp) l) savePlace (c .save))
+keptRun c l = keptCourse (c .dimmer .motion) (set (keptTimers (c .lamp) l) saveIndex (c .save))
 
 unfoldable pub keptTimes : ℕ → Paddle → List ℕ → List ℕ
-keptTimes i p l = set (set l (holdPlace i) (p .hold)) (gapPlace i) (p .gap)
+keptTimes i p l = set (set l (holdIndex i) (p .hold)) (gapIndex i) (p .gap)
 
 unfoldable pub keptAllTimes : List Paddle → List ℕ → List ℕ
-keptAllTimes ps l = keptTimes 1 (getD ps 1 fresh) (keptTimes 0 (getD ps 0 fresh) l)
+keptAllTimes ps l = keptTimes 1 (getD ps 1 freshPaddle) (keptTimes 0 (getD ps 0 freshPaddle) l)
 
 unfoldable pub keptCounters : Live → List ℕ → List ℕ
 keptCounters live l = keptAllTimes (live .paddles) (keptRun (live .core) l)
 
 -- The numbers: the password, those of the core, and those of the paddles.
 unfoldable pub keptPassword : Password → List ℕ → List ℕ
-keptPassword w l = set (set l firstPlace (w .0)) secondPlace (w .1)
+keptPassword w l = set (set l firstIndex (w .0)) secondIndex (w .1)
 
 unfoldable pub keptDimmer : Dimmer → List ℕ → List ℕ
-keptDimmer d l = keptKind (d .motion) (set (keptTarget (d .motion) (set l lastPlace (d .last .0))) levelPlace (d .level .0))
+keptDimmer d l = keptKind (d .motion) (set (keptTarget (d .motion) (set l lastIndex (d .last .0))) levelIndex (d .level .0))
 
 unfoldable pub keptCore : Core → List ℕ → List ℕ
 keptCore c l = keptDimmer (c .dimmer) (keptHue (c .lamp .hue) (keptMode (c .mode) l))
 
 unfoldable pub keptPaddle : ℕ → Paddle → List ℕ → List ℕ
-keptPaddle i p l = set (keptFlag (p .slave) (slavePlace i) (keptFlag (p .local) (localPlace i) l)) (tapsPlace i) (p .taps)
+keptPaddle i p l = set (keptFlag (p .slave) (slaveIndex i) (keptFlag (p .local) (localIndex i) l)) (tapsIndex i) (p .taps)
 
 unfoldable pub keptPaddles : List Paddle → List ℕ → List ℕ
-keptPaddles ps l = keptPaddle 1 (getD ps 1 fresh) (keptPaddle 0 (getD ps 0 fresh) l)
+keptPaddles ps l = keptPaddle 1 (getD ps 1 freshPaddle) (keptPaddle 0 (getD ps 0 freshPaddle) l)
 
 unfoldable pub keptNumbers : Live → List ℕ → List ℕ
 keptNumbers live l = keptPaddles (live .paddles) (keptCore (live .core) (keptPassword (live .password) l))
 
 -- What a tick that does nothing else makes of the numbers: where nothing runs they stay, else the level and the kind of motion are kept.
 unfoldable pub keptStep : Dimmer → List ℕ → List ℕ
-keptStep d l = if eqb (getD l kindPlace 0) 0 then l else keptKind (d .motion) (set l levelPlace (d .level .0))
+keptStep d l = if eqb (getD l kindIndex 0) 0 then l else keptKind (d .motion) (set l levelIndex (d .level .0))

@@ -30,8 +30,8 @@ use Rattle.host.specs.declared.Answer.{Answer}
 unfoldable pub truth : ℕ → Bool
 truth number = not (eqb number 0)
 
-unfoldable pub bit : Bool → ℕ
-bit flag = if flag then 1 else 0
+unfoldable pub flagNumber : Bool → ℕ
+flagNumber flag = if flag then 1 else 0
 
 -- A mode is 0 Normal, 1 Setup, 2 Factory; any other number is Normal.
 unfoldable pub modeOf : ℕ → Mode
@@ -43,8 +43,8 @@ modeNumber Setup = 1
 modeNumber Factory = 2
 
 -- A colour is 0 black, 1 red, 2 green, 3 orange; any other number is black.
-unfoldable pub colourOf : ℕ → Colour
-colourOf number =
+unfoldable pub colourFrom : ℕ → Colour
+colourFrom number =
     if eqb number 1 then Red
     else if eqb number 2 then Green
     else if eqb number 3 then Orange
@@ -69,94 +69,94 @@ kindNumber (Fading target period left) = 1
 kindNumber (Blinking period left) = 2
 
 -- Where each counter stands among the 11, and each number among the 14. Paddle 0 is the top, 1 the bottom.
-abbrev pub versionPlace : ℕ
-versionPlace = 0
+abbrev pub versionIndex : ℕ
+versionIndex = 0
 
-abbrev pub phasePlace : ℕ
-phasePlace = 1
+abbrev pub phaseIndex : ℕ
+phaseIndex = 1
 
-abbrev pub blinkPlace : ℕ
-blinkPlace = 2
+abbrev pub blinkIndex : ℕ
+blinkIndex = 2
 
-abbrev pub flashPlace : ℕ
-flashPlace = 3
+abbrev pub flashIndex : ℕ
+flashIndex = 3
 
-abbrev pub savePlace : ℕ
-savePlace = 4
+abbrev pub saveIndex : ℕ
+saveIndex = 4
 
-abbrev pub leftPlace : ℕ
-leftPlace = 5
+abbrev pub leftIndex : ℕ
+leftIndex = 5
 
-abbrev pub holdPlace : ℕ → ℕ
-holdPlace i = 6 + i
+abbrev pub holdIndex : ℕ → ℕ
+holdIndex i = 6 + i
 
-abbrev pub gapPlace : ℕ → ℕ
-gapPlace i = 8 + i
+abbrev pub gapIndex : ℕ → ℕ
+gapIndex i = 8 + i
 
-abbrev pub periodPlace : ℕ
-periodPlace = 10
+abbrev pub periodIndex : ℕ
+periodIndex = 10
 
-abbrev pub localPlace : ℕ → ℕ
-localPlace i = 0 + i
+abbrev pub localIndex : ℕ → ℕ
+localIndex i = 0 + i
 
-abbrev pub slavePlace : ℕ → ℕ
-slavePlace i = 2 + i
+abbrev pub slaveIndex : ℕ → ℕ
+slaveIndex i = 2 + i
 
-abbrev pub tapsPlace : ℕ → ℕ
-tapsPlace i = 4 + i
+abbrev pub tapsIndex : ℕ → ℕ
+tapsIndex i = 4 + i
 
-abbrev pub levelPlace : ℕ
-levelPlace = 6
+abbrev pub levelIndex : ℕ
+levelIndex = 6
 
-abbrev pub kindPlace : ℕ
-kindPlace = 7
+abbrev pub kindIndex : ℕ
+kindIndex = 7
 
-abbrev pub modePlace : ℕ
-modePlace = 8
+abbrev pub modeIndex : ℕ
+modeIndex = 8
 
-abbrev pub huePlace : ℕ
-huePlace = 9
+abbrev pub hueIndex : ℕ
+hueIndex = 9
 
-abbrev pub lastPlace : ℕ
-lastPlace = 10
+abbrev pub lastIndex : ℕ
+lastIndex = 10
 
-abbrev pub targetPlace : ℕ
-targetPlace = 11
+abbrev pub targetIndex : ℕ
+targetIndex = 11
 
-abbrev pub firstPlace : ℕ
-firstPlace = 12
+abbrev pub firstIndex : ℕ
+firstIndex = 12
 
-abbrev pub secondPlace : ℕ
-secondPlace = 13
+abbrev pub secondIndex : ℕ
+secondIndex = 13
 
 -- All that a switch holds besides its registers, read part by part.
-unfoldable pub paddleOf : ℕ → List ℕ → List ℕ → Paddle
-paddleOf i counters numbers =
-    paddle (truth (getD numbers (localPlace i) 0)) (truth (getD numbers (slavePlace i) 0))
-    (getD counters (holdPlace i) 0) (getD counters (gapPlace i) 0) (getD numbers (tapsPlace i) 0)
+unfoldable pub paddleFrom : ℕ → List ℕ → List ℕ → Paddle
+paddleFrom i counters numbers =
+    paddle (truth (getD numbers (localIndex i) 0)) (truth (getD numbers (slaveIndex i) 0))
+    (getD counters (holdIndex i) 0) (getD counters (gapIndex i) 0) (getD numbers (tapsIndex i) 0)
 
 unfoldable pub paddlesOf : List ℕ → List ℕ → List Paddle
-paddlesOf counters numbers = paddleOf 0 counters numbers ∷ paddleOf 1 counters numbers ∷ []
+paddlesOf counters numbers = paddleFrom 0 counters numbers ∷ paddleFrom 1 counters numbers ∷ []
 
 unfoldable pub dimmerOf : List ℕ → List ℕ → Dimmer
 dimmerOf counters numbers =
-    dimmer (step (getD numbers levelPlace 0)) (step (getD numbers lastPlace 0))
-    (motionOf (getD numbers kindPlace 0) (getD numbers targetPlace 0) (getD counters periodPlace 0) (getD counters leftPlace 0))
+    dimmer (step (getD numbers levelIndex 0)) (step (getD numbers lastIndex 0))
+    (motionOf (getD numbers kindIndex 0) (getD numbers targetIndex 0) (getD counters periodIndex 0) (getD counters leftIndex 0))
 
 unfoldable pub lampOf : List ℕ → List ℕ → Lamp
 lampOf counters numbers =
-    lamp (getD counters versionPlace 0) (getD counters phasePlace 0) (getD counters blinkPlace 0)
-    (colourOf (getD numbers huePlace 0)) (getD counters flashPlace 0)
+    lamp (getD counters versionIndex 0) (getD counters phaseIndex 0) (getD counters blinkIndex 0)
+    (colourFrom (getD numbers hueIndex 0)) (getD counters flashIndex 0)
 
 unfoldable pub coreOf : List ℕ → List ℕ → Core
 coreOf counters numbers =
-    core (modeOf (getD numbers modePlace 0)) (dimmerOf counters numbers) (lampOf counters numbers) (getD counters savePlace 0)
+    core (modeOf (getD numbers modeIndex 0)) (dimmerOf counters numbers) (lampOf counters numbers) (getD counters saveIndex 0)
 
 unfoldable pub passwordOf : List ℕ → Password
-passwordOf numbers = password (getD numbers firstPlace 0) (getD numbers secondPlace 0)
+passwordOf numbers = password (getD numbers firstIndex 0) (getD numbers secondIndex 0)
 
-unfoldable pub liveOf : List ℕ → List ℕ → Live
-liveOf counters numbers =
+unfoldable pub liveFrom : List ℕ → List ℕ → Live
+liveFrom counters numbers =
     record {
       password = passwordOf numbers;
       core = coreOf counters numbers;
@@ -164,8 +164,8 @@ liveOf counters numbers =
     }
 
 -- An answer, and back.
-unfoldable pub answerOf : SwitchAnswer → Answer
-answerOf a =
+unfoldable pub inNumbers : SwitchAnswer → Answer
+inNumbers a =
     record {
       number = a .number;
       count = a .sent .count;
@@ -184,6 +184,6 @@ switchAnswer a =
       sent = record { count = a .count; first = a .first; second = a .second };
       level = step (a .level);
       output = step (a .output);
-      colour = colourOf (a .colour);
+      colour = colourFrom (a .colour);
       mode = modeOf (a .mode);
     }

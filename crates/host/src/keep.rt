@@ -2,7 +2,7 @@
 // as it is, and of a motion only what it has is written.
 ghost use mathlib.Core.Path.{_≡_};
 ghost use Prim.Native.Nat.{_<_};
-ghost use Rattle.host.specs.Keeping.{kept, keptFlag, keptMode, keptHue, keptKind, keptCourse, keptTarget};
+ghost use Rattle.host.specs.Keeping.{keptAt, keptFlag, keptMode, keptHue, keptKind, keptCourse, keptTarget};
 ghost use Rattle.host.specs.Keeping.{keptTimes, keptAllTimes, keptTimers, keptRun, keptCounters};
 ghost use Rattle.host.specs.Keeping.{keptPaddle, keptPaddles, keptPassword, keptDimmer, keptCore, keptNumbers, keptStep};
 use crate::mirror::BLINK;
@@ -214,7 +214,7 @@ fn keep_kind(motion: Motion, numbers: &mut [u8; 14])
 // `plain`: the plain number of what stands there.
 fn keep(plain: u8, new: u8, place: usize, numbers: &mut [u8; 14])
     requires { ⌜ place < 14 ⌝ }
-    ensures { λ r. ⌜ now (numbers .exit) ≡ kept plain new place (now (numbers .entry)) ⌝ }
+    ensures { λ r. ⌜ now (numbers .exit) ≡ keptAt plain new place (now (numbers .entry)) ⌝ }
 {
     if plain != new {
         numbers[place] = new;

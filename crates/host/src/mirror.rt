@@ -2,8 +2,8 @@
 // the first of its list; any number but 0 is true.
 ghost use mathlib.Core.Path.{_≡_};
 ghost use Prim.Native.Nat.{_<_};
-ghost use Rattle.host.specs.Mirror.{truth, bit, modeOf, modeNumber, colourOf, colourNumber, motionOf, kindNumber};
-ghost use Rattle.host.specs.Mirror.{paddleOf, paddlesOf, dimmerOf, lampOf, coreOf, passwordOf, liveOf, answerOf};
+ghost use Rattle.host.specs.Mirror.{truth, flagNumber, modeOf, modeNumber, colourFrom, colourNumber, motionOf, kindNumber};
+ghost use Rattle.host.specs.Mirror.{paddleFrom, paddlesOf, dimmerOf, lampOf, coreOf, passwordOf, liveFrom, inNumbers};
 use crate::Answer;
 use acts::Core;
 use dimmer::Dimmer;
@@ -59,7 +59,7 @@ pub(crate) const FIRST: usize = 12;
 pub(crate) const SECOND: usize = 13;
 
 pub(crate) fn live_of(counters: &[u16; 11], numbers: &[u8; 14]) -> Live
-    ensures { λ r. ⌜ r ≡ liveOf (now (counters .entry)) (now (numbers .entry)) ⌝ }
+    ensures { λ r. ⌜ r ≡ liveFrom (now (counters .entry)) (now (numbers .entry)) ⌝ }
 {
     Live {
         password: password_of(numbers),
@@ -123,7 +123,7 @@ pub(crate) fn paddles_of(counters: &[u16; 11], numbers: &[u8; 14]) -> [Paddle; 2
 
 pub(crate) fn paddle_of(i: usize, counters: &[u16; 11], numbers: &[u8; 14]) -> Paddle
     requires { ⌜ i < 2 ⌝ }
-    ensures { λ r. ⌜ r ≡ paddleOf i (now (counters .entry)) (now (numbers .entry)) ⌝ }
+    ensures { λ r. ⌜ r ≡ paddleFrom i (now (counters .entry)) (now (numbers .entry)) ⌝ }
 {
     Paddle {
         local: truth(numbers[LOCAL + i]),
@@ -141,7 +141,7 @@ pub(crate) fn truth(number: u8) -> bool
 }
 
 pub(crate) fn bit(flag: bool) -> u8
-    ensures { λ r. ⌜ r ≡ bit flag ⌝ }
+    ensures { λ r. ⌜ r ≡ flagNumber flag ⌝ }
 {
     if flag {
         return 1;
@@ -170,7 +170,7 @@ pub(crate) fn mode_number(mode: Mode) -> u8
 }
 
 pub(crate) fn colour_of(number: u8) -> Colour
-    ensures { λ r. ⌜ r ≡ colourOf number ⌝ }
+    ensures { λ r. ⌜ r ≡ colourFrom number ⌝ }
 {
     match number {
         1 => Colour::Red,
@@ -216,7 +216,7 @@ pub(crate) fn kind_number(motion: Motion) -> u8
 }
 
 pub(crate) fn answer_of(answer: switch::Answer) -> Answer
-    ensures { λ r. ⌜ r ≡ answerOf answer ⌝ }
+    ensures { λ r. ⌜ r ≡ inNumbers answer ⌝ }
 {
     let sent = answer.sent;
     let level = answer.level;

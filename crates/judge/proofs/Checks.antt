@@ -22,8 +22,8 @@ use Rattle.judge.specs.declared.Target.{Target}
 use Rattle.judge.specs.declared.Target.the-variants.{Nobody, Everyone, Us, Component}
 use Rattle.judge.specs.declared.Verb.{Verb}
 use Rattle.judge.specs.declared.Verb.the-variants.{Open, Close, Get, Set, Activate, Deactivate, Goto, FadeStart, FadeStop, Blink, Report, Store, Unlisted}
-use Rattle.judge.specs.Judge.{heard, directly, matching, targetOf, reached, verbOf, listed, argument, arguments, inRange, values, suits, toUs, direct, byLink, inNormal, permitted, componentOf}
-use Rattle.judge.specs.Promises.{Unheard, NotFor, Unreached, commands, NoneOf, Takes, Range, Suits, ToUs, Asked, Permitted, ByLink}
+use Rattle.judge.specs.Judge.{heard, directly, matching, targetOf, reached, verbOf, listed, argument, arguments, registersInRange, values, suits, toUs, directTo, byLink, isNormal, permitted, componentOf}
+use Rattle.judge.specs.Promises.{Unheard, NotFor, Unreached, commands, NoneOf, Takes, Range, Suits, ToUs, AskedToReply, Permitted, ByLink}
 
 -- An argument that is there is itself, whatever would stand for it if it were missing.
 pub there : (message : List ℕ) (i d e : ℕ) → i < length message → getD message i d ≡ getD message i e
@@ -163,8 +163,8 @@ takes-says : (m : List ℕ) (least most : ℕ) → (arguments m least most ≡ t
 unfolding arguments
 takes-says m least most = both-say (ltb least (length m)) (leb (length m) (most + 1)) (less-says _ _) (most-says _ _)
 
-range-says : (first count : ℕ) → (inRange first count ≡ true) ↔ Range first count
-unfolding inRange
+range-says : (first count : ℕ) → (registersInRange first count ≡ true) ↔ Range first count
+unfolding registersInRange
 range-says first count =
     both-say (leb 1 count) (leb count 16 && leb (first + count) 256) (most-says _ _)
     (both-say (leb count 16) (leb (first + count) 256) (most-says _ _) (most-says _ _))
@@ -173,7 +173,7 @@ pub suits-says : (v : Verb) (m : List ℕ) → (suits v m ≡ true) ↔ Suits v 
 unfolding suits
 suits-says Open m = takes-says m 2 2
 suits-says Close m = takes-says m 0 0
-suits-says Get m = both-say (arguments m 2 2) (inRange (argument m 1) (argument m 2)) (takes-says m 2 2) (range-says _ _)
+suits-says Get m = both-say (arguments m 2 2) (registersInRange (argument m 1) (argument m 2)) (takes-says m 2 2) (range-says _ _)
 suits-says Set m = range-says (argument m 1) (values m)
 suits-says Activate m = takes-says m 0 0
 suits-says Deactivate m = takes-says m 0 0
@@ -186,10 +186,10 @@ suits-says Store m = takes-says m 0 0
 suits-says Unlisted m = (λ e. absurd (false≢true e), λ w. absurd w)
 
 -- 13: what is permitted: by the mode ..
-normal-says : (mode : Mode) → (inNormal mode ≡ true) ↔ (mode ≡ Normal)
-normal-says mode = (go mode, ap inNormal)
+normal-says : (mode : Mode) → (isNormal mode ≡ true) ↔ (mode ≡ Normal)
+normal-says mode = (go mode, ap isNormal)
   where
-    go : (mode : Mode) → inNormal mode ≡ true → mode ≡ Normal
+    go : (mode : Mode) → isNormal mode ≡ true → mode ≡ Normal
     go Normal e = refl
     go Setup e = absurd (false≢true e)
     go Factory e = absurd (false≢true e)
@@ -211,7 +211,7 @@ module _ (all : List ℕ) (h : Header) where
   us-says Us a r = (λ e. a, λ w. refl)
   us-says (Component i) a r = (λ e. absurd (false≢true e), λ w. absurd (true≢false (sym (a .0) ∙ w .0)))
 
-  direct-says : (t : Target) → Aimed t all h → reached t ≡ true → (direct t ≡ true) ↔ (h .link ≡ false)
+  direct-says : (t : Target) → Aimed t all h → reached t ≡ true → (directTo t ≡ true) ↔ (h .link ≡ false)
   direct-says Nobody a r = absurd (false≢true r)
   direct-says Everyone a r = (λ e. a .0, λ w. refl)
   direct-says Us a r = (λ e. a .0, λ w. refl)
@@ -224,15 +224,15 @@ module _ (all : List ℕ) (h : Header) where
   link-says (Component i) a r = (λ e. a .0, λ w. refl)
 
   -- .. the source ..
-  asked-says : (t : Target) → Aimed t all h → reached t ≡ true → ((toUs t && ltb 0 (h .source)) ≡ true) ↔ Asked all h
+  asked-says : (t : Target) → Aimed t all h → reached t ≡ true → ((toUs t && ltb 0 (h .source)) ≡ true) ↔ AskedToReply all h
   asked-says t a r = both-say (toUs t) (ltb 0 (h .source)) (us-says t a r) (λ e z. let k : 0 < h .source = ltb-true _ _ e in omega arith, λ n. lt-ltb 0 (h .source) (omega arith))
 
   -- .. all together.
   pub permitted-says : (v : Verb) (mode : Mode) (t : Target) → Aimed t all h → reached t ≡ true
       → (permitted v t mode (h .source) (optionsOf (dimmingIn all) .capable) ≡ true) ↔ Permitted v all mode h
   unfolding permitted
-  permitted-says Open mode t a r = both-say (toUs t) (inNormal mode) (us-says t a r) (normal-says mode)
-  permitted-says Close mode t a r = both-say (direct t) (inSetup mode) (direct-says t a r) (setup-says mode)
+  permitted-says Open mode t a r = both-say (toUs t) (isNormal mode) (us-says t a r) (normal-says mode)
+  permitted-says Close mode t a r = both-say (directTo t) (inSetup mode) (direct-says t a r) (setup-says mode)
   permitted-says Get mode t a r = asked-says t a r
   permitted-says Set mode t a r = both-say (toUs t) (inSetup mode) (us-says t a r) (setup-says mode)
   permitted-says Activate mode t a r = link-says t a r

@@ -21,8 +21,8 @@ use Rattle.judge.specs.declared.Verb.{Verb}
 use Rattle.judge.specs.declared.Verb.the-variants.{Open, Close, Get, Set, Activate, Deactivate, Goto, FadeStart, FadeStop, Blink, Report, Store, Unlisted}
 use Rattle.judge.specs.declared.Order.{Order}
 use Rattle.judge.specs.declared.Order.the-variants as order
-use Rattle.judge.specs.Judge.{heard, targetOf, reached, verbOf, listed, argument, optional, values, suits, permitted, componentOf, ordered, judged, numberOf, arguments, inRange}
-use Rattle.judge.specs.Promises.{Unheard, Takes, Range, Suits, Permitted, Reached, Listed, Suited, ByLink, Refusal, wrong-network, not-ours, not-listed, wrong-arguments, not-permitted, Level, Given, GivenExactly, NumberExactly, OnlyThese, InOrder}
+use Rattle.judge.specs.Judge.{heard, targetOf, reached, verbOf, listed, argument, optional, values, suits, permitted, componentOf, ordered, judged, numberOfOrder, arguments, registersInRange}
+use Rattle.judge.specs.Promises.{Unheard, Takes, Range, Suits, Permitted, Reached, Listed, Suited, ByLink, Refusal, wrong-network, not-ours, not-listed, wrong-arguments, not-permitted, Level, Judged, JudgedExactly, NumberExactly, OnlyNineTo13, ChecksInOrder}
 use Rattle.judge.proofs.Checks.{heard-says, Aimed, aimed, reached-says, Number, numbered, listed-says, suits-says, permitted-says, component-says, component-is}
 
 -- A test is true exactly where what it denies does not hold.
@@ -79,7 +79,7 @@ module _ (all : List ℕ) (mode : Mode) (h : Header) where
   module _ (m : List ℕ) where
     -- A command that passes every check is the order that its sentence says.
     accepted : (v : Verb) (t : Target) → Aimed t all h → reached t ≡ true → Number v (argument m 0)
-        → Reached all h → Suits v m → Permitted v all mode h → Given (ordered v t m) all mode h m
+        → Reached all h → Suits v m → Permitted v all mode h → Judged (ordered v t m) all mode h m
     unfolding ordered
     accepted Open t a z n r s p = record { reached = r; comes = p .0; when = p .1; says = two m _ s n }
     accepted Close t a z n r s p = record { reached = r; comes = p .0; when = p .1; says = none m _ s n }
@@ -96,10 +96,10 @@ module _ (all : List ℕ) (mode : Mode) (h : Header) where
     accepted Unlisted t a z n r s p = absurd p
 
     -- What is judged meets its row of the table, or its command's sentence.
-    pub given : Given (judged all mode h m) all mode h m
+    pub given : Judged (judged all mode h m) all mode h m
     unfolding judged
     given =
-        let row : Order → Type 0 = λ o. Given o all mode h m in
+        let row : Order → Type 0 = λ o. Judged o all mode h m in
         let n = argument m 0 in
         let v = verbOf n in
         let t = targetOf all h in
@@ -153,7 +153,7 @@ module _ (all : List ℕ) (mode : Mode) (h : Header) where
       rw (n, hearing r, reaching r, l, suits-says v m .1 s, permitted-says all h v mode (targetOf all h) (aimed all h) (reaching r) .1 p)
 
   -- A command's sentence that holds is what is answered.
-  pub only : (o : Order) (m : List ℕ) → Given o all mode h m → judged all mode h m ≡ o
+  pub only : (o : Order) (m : List ℕ) → Judged o all mode h m → judged all mode h m ≡ o
   unfolding verbOf ordered
   only (order.Refused n) m g = refused n m g
   only (order.Open guess) m g = rw (g .says) (passes _ Open refl refl (g .reached) (omega arith) (g .comes, g .when))
@@ -177,15 +177,15 @@ module _ (all : List ℕ) (mode : Mode) (h : Header) where
   only (order.Store i) m g = rw (g .says) (passes _ Store refl refl (g .reached) (omega arith) (g .comes .0) ∙ ap order.Store (mine i (g .reached) (g .comes)))
 
 -- Each number and each order is given exactly when document 01 says.
-pub exactly : GivenExactly
-exactly o all mode h m = (λ e. subst (λ (o : Order). Given o all mode h m) e (given all mode h m), only all mode h o m)
+pub exactly : JudgedExactly
+exactly o all mode h m = (λ e. subst (λ (o : Order). Judged o all mode h m) e (given all mode h m), only all mode h o m)
 
 -- What an answer says of the packet: for each order by which packets, in which mode and with which message it comes.
-pub asks : (o : Order) (all : List ℕ) (mode : Mode) (h : Header) (m : List ℕ) → judged all mode h m ≡ o → Given o all mode h m
+pub asks : (o : Order) (all : List ℕ) (mode : Mode) (h : Header) (m : List ℕ) → judged all mode h m ≡ o → Judged o all mode h m
 asks o all mode h m = exactly o all mode h m .0
 
 -- No other number than 9 to 13 is given.
-pub only-these : OnlyThese
+pub only-these : OnlyNineTo13
 only-these n all mode h m (wrong-network u) = omega arith
 only-these n all mode h m (not-ours p u) = omega arith
 only-these n all mode h m (not-listed p u) = omega arith
@@ -193,7 +193,7 @@ only-these n all mode h m (wrong-arguments p u) = omega arith
 only-these n all mode h m (not-permitted p u) = omega arith
 
 -- An answer's number is 0, or its row holds.
-row-or-0 : (o : Order) (all : List ℕ) (mode : Mode) (h : Header) (m : List ℕ) → Given o all mode h m → (numberOf o ≡ 0) ⊎ Refusal all mode h m (numberOf o)
+row-or-0 : (o : Order) (all : List ℕ) (mode : Mode) (h : Header) (m : List ℕ) → Judged o all mode h m → (numberOfOrder o ≡ 0) ⊎ Refusal all mode h m (numberOfOrder o)
 row-or-0 (order.Refused n) all mode h m g = inr g
 row-or-0 (order.Open guess) all mode h m g = inl refl
 row-or-0 order.Close all mode h m g = inl refl
@@ -211,12 +211,12 @@ row-or-0 (order.Store i) all mode h m g = inl refl
 pub number-exactly : NumberExactly
 number-exactly n all mode h m z = (
   λ e. ⊎-elim (λ k. absurd (z (sym e ∙ k))) (λ g. subst (λ (n : ℕ). Refusal all mode h m n) e g) (row-or-0 (judged all mode h m) all mode h m (given all mode h m)),
-  λ g. ap numberOf (refused all mode h n m g),
+  λ g. ap numberOfOrder (refused all mode h n m g),
 )
 
 -- The examples.
-pub in-order : InOrder
-unfolding judged verbOf suits arguments inRange
+pub in-order : ChecksInOrder
+unfolding judged verbOf suits arguments registersInRange
 in-order all mode h r =
     let heard = hearing all mode h r in
     let there = reaching all mode h r in

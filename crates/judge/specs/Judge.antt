@@ -90,8 +90,8 @@ unfoldable pub arguments : List ℕ → ℕ → ℕ → Bool
 arguments message least most = ltb least (length message) && leb (length message) (most + 1)
 
 -- "0x10 Get Registers (first, count 1 to 16)"; "0x11 Set Registers (first, 1 to 16 values)"; "A range past 0xFF is 12."
-unfoldable pub inRange : ℕ → ℕ → Bool
-inRange first count = leb 1 count && (leb count 16 && leb (first + count) 256)
+unfoldable pub registersInRange : ℕ → ℕ → Bool
+registersInRange first count = leb 1 count && (leb count 16 && leb (first + count) 256)
 
 -- How many values follow the first register's number.
 abbrev pub values : List ℕ → ℕ
@@ -101,8 +101,8 @@ values message = length message - 2
 unfoldable pub suits : Verb → List ℕ → Bool
 suits Open message = arguments message 2 2
 suits Close message = arguments message 0 0
-suits Get message = arguments message 2 2 && inRange (argument message 1) (argument message 2)
-suits Set message = inRange (argument message 1) (values message)
+suits Get message = arguments message 2 2 && registersInRange (argument message 1) (argument message 2)
+suits Set message = registersInRange (argument message 1) (values message)
 suits Activate message = arguments message 0 0
 suits Deactivate message = arguments message 0 0
 suits Goto message = arguments message 1 2
@@ -120,11 +120,11 @@ toUs Everyone = false
 toUs Us = true
 toUs (Component i) = false
 
-abbrev pub direct : Target → Bool
-direct Nobody = false
-direct Everyone = true
-direct Us = true
-direct (Component i) = false
+abbrev pub directTo : Target → Bool
+directTo Nobody = false
+directTo Everyone = true
+directTo Us = true
+directTo (Component i) = false
 
 abbrev pub byLink : Target → Bool
 byLink Nobody = false
@@ -133,15 +133,15 @@ byLink Us = false
 byLink (Component i) = true
 
 -- .. by the mode ..
-abbrev pub inNormal : Mode → Bool
-inNormal Normal = true
-inNormal Setup = false
-inNormal Factory = false
+abbrev pub isNormal : Mode → Bool
+isNormal Normal = true
+isNormal Setup = false
+isNormal Factory = false
 
 -- .. by the load ("Fade Start is 13 if not capable"), and "a request that needs [a reply] from source 0 is 13".
 unfoldable pub permitted : Verb → Target → Mode → ℕ → Bool → Bool
-permitted Open target mode source capable = toUs target && inNormal mode
-permitted Close target mode source capable = direct target && inSetup mode
+permitted Open target mode source capable = toUs target && isNormal mode
+permitted Close target mode source capable = directTo target && inSetup mode
 permitted Get target mode source capable = toUs target && ltb 0 source
 permitted Set target mode source capable = toUs target && inSetup mode
 permitted Activate target mode source capable = byLink target
@@ -191,16 +191,16 @@ judged all mode header message =
     else ordered verb target message
 
 -- The number of an order: that of the refusal, or 0.
-abbrev pub numberOf : Order → ℕ
-numberOf (order.Refused n) = n
-numberOf (order.Open guess) = 0
-numberOf order.Close = 0
-numberOf (order.Get first count) = 0
-numberOf (order.Set first) = 0
-numberOf (order.Activate i) = 0
-numberOf (order.Deactivate i) = 0
-numberOf (order.Goto level rate) = 0
-numberOf order.Stop = 0
-numberOf (order.Blink value) = 0
-numberOf order.Report = 0
-numberOf (order.Store i) = 0
+abbrev pub numberOfOrder : Order → ℕ
+numberOfOrder (order.Refused n) = n
+numberOfOrder (order.Open guess) = 0
+numberOfOrder order.Close = 0
+numberOfOrder (order.Get first count) = 0
+numberOfOrder (order.Set first) = 0
+numberOfOrder (order.Activate i) = 0
+numberOfOrder (order.Deactivate i) = 0
+numberOfOrder (order.Goto level rate) = 0
+numberOfOrder order.Stop = 0
+numberOfOrder (order.Blink value) = 0
+numberOfOrder order.Report = 0
+numberOfOrder (order.Store i) = 0

@@ -17,7 +17,7 @@ use Rattle.judge.specs.declared.Verb.{Verb}
 use Rattle.judge.specs.declared.Verb.the-variants.{Open, Close, Get, Set, Activate, Deactivate, Goto, FadeStart, FadeStop, Blink, Report, Store, Unlisted}
 use Rattle.judge.specs.declared.Order.{Order}
 use Rattle.judge.specs.declared.Order.the-variants as order
-use Rattle.judge.specs.Judge.{argument, values, verbOf, judged, numberOf}
+use Rattle.judge.specs.Judge.{argument, values, verbOf, judged, numberOfOrder}
 
 -- 9: "network is neither 0 nor register 0x00"
 abbrev pub Unheard : List ℕ → Header → Type 0
@@ -67,8 +67,8 @@ abbrev pub ToUs : List ℕ → Header → Type 0
 ToUs all h = (h .link ≡ false) × ((h .destination ≡ unitIn all) × (h .destination ≡ 0 → ⊥))
 
 -- .. "a request that needs [a reply] from source 0 is 13" ..
-abbrev pub Asked : List ℕ → Header → Type 0
-Asked all h = ToUs all h × (h .source ≡ 0 → ⊥)
+abbrev pub AskedToReply : List ℕ → Header → Type 0
+AskedToReply all h = ToUs all h × (h .source ≡ 0 → ⊥)
 
 -- .. and "Fade Start is 13 if not capable".
 abbrev pub Capable : List ℕ → Type 0
@@ -77,7 +77,7 @@ Capable all = optionsOf (dimmingIn all) .capable ≡ true
 abbrev pub Permitted : Verb → List ℕ → Mode → Header → Type 0
 Permitted Open all mode h = ToUs all h × (mode ≡ Normal)
 Permitted Close all mode h = (h .link ≡ false) × (mode ≡ Setup)
-Permitted Get all mode h = Asked all h
+Permitted Get all mode h = AskedToReply all h
 Permitted Set all mode h = ToUs all h × (mode ≡ Setup)
 Permitted Activate all mode h = h .link ≡ true
 Permitted Deactivate all mode h = h .link ≡ true
@@ -85,7 +85,7 @@ Permitted Goto all mode h = Unit {0}
 Permitted FadeStart all mode h = Capable all
 Permitted FadeStop all mode h = Unit {0}
 Permitted Blink all mode h = Unit {0}
-Permitted Report all mode h = Asked all h
+Permitted Report all mode h = AskedToReply all h
 Permitted Store all mode h = h .link ≡ true
 Permitted Unlisted all mode h = ⊥
 
@@ -118,14 +118,14 @@ abbrev pub Comes : Order → List ℕ → Header → Type 0
 Comes (order.Refused n) all h = ⊥
 Comes (order.Open guess) all h = ToUs all h
 Comes order.Close all h = h .link ≡ false
-Comes (order.Get first count) all h = Asked all h
+Comes (order.Get first count) all h = AskedToReply all h
 Comes (order.Set first) all h = ToUs all h
 Comes (order.Activate i) all h = ByLink i all h
 Comes (order.Deactivate i) all h = ByLink i all h
 Comes (order.Goto level rate) all h = Unit {0}
 Comes order.Stop all h = Unit {0}
 Comes (order.Blink value) all h = Unit {0}
-Comes order.Report all h = Asked all h
+Comes order.Report all h = AskedToReply all h
 Comes (order.Store i) all h = ByLink i all h
 
 -- The modes in which it can come: "13 unless Normal", "only in Setup", or any.
@@ -170,32 +170,32 @@ pub record Accepted (o : Order) (all : List ℕ) (mode : Mode) (h : Header) (m :
   pub says : Says o all m
 
 -- What holds where an answer is given: its row of the table, or its command's sentence.
-abbrev pub Given : Order → List ℕ → Mode → Header → List ℕ → Type 0
-Given (order.Refused n) all mode h m = Refusal all mode h m n
-Given (order.Open guess) all mode h m = Accepted (order.Open guess) all mode h m
-Given order.Close all mode h m = Accepted order.Close all mode h m
-Given (order.Get first count) all mode h m = Accepted (order.Get first count) all mode h m
-Given (order.Set first) all mode h m = Accepted (order.Set first) all mode h m
-Given (order.Activate i) all mode h m = Accepted (order.Activate i) all mode h m
-Given (order.Deactivate i) all mode h m = Accepted (order.Deactivate i) all mode h m
-Given (order.Goto level rate) all mode h m = Accepted (order.Goto level rate) all mode h m
-Given order.Stop all mode h m = Accepted order.Stop all mode h m
-Given (order.Blink value) all mode h m = Accepted (order.Blink value) all mode h m
-Given order.Report all mode h m = Accepted order.Report all mode h m
-Given (order.Store i) all mode h m = Accepted (order.Store i) all mode h m
+abbrev pub Judged : Order → List ℕ → Mode → Header → List ℕ → Type 0
+Judged (order.Refused n) all mode h m = Refusal all mode h m n
+Judged (order.Open guess) all mode h m = Accepted (order.Open guess) all mode h m
+Judged order.Close all mode h m = Accepted order.Close all mode h m
+Judged (order.Get first count) all mode h m = Accepted (order.Get first count) all mode h m
+Judged (order.Set first) all mode h m = Accepted (order.Set first) all mode h m
+Judged (order.Activate i) all mode h m = Accepted (order.Activate i) all mode h m
+Judged (order.Deactivate i) all mode h m = Accepted (order.Deactivate i) all mode h m
+Judged (order.Goto level rate) all mode h m = Accepted (order.Goto level rate) all mode h m
+Judged order.Stop all mode h m = Accepted order.Stop all mode h m
+Judged (order.Blink value) all mode h m = Accepted (order.Blink value) all mode h m
+Judged order.Report all mode h m = Accepted order.Report all mode h m
+Judged (order.Store i) all mode h m = Accepted (order.Store i) all mode h m
 
 -- Each answer is given exactly when document 01 says.
-abbrev pub GivenExactly : Type 0
-GivenExactly = (o : Order) (all : List ℕ) (mode : Mode) (h : Header) (m : List ℕ) → (judged all mode h m ≡ o) ↔ Given o all mode h m
+abbrev pub JudgedExactly : Type 0
+JudgedExactly = (o : Order) (all : List ℕ) (mode : Mode) (h : Header) (m : List ℕ) → (judged all mode h m ≡ o) ↔ Judged o all mode h m
 
 -- "Given exactly when", for the numbers: a number other than 0 is given exactly when its row says, and only 9 to 13 have one.
 abbrev pub NumberExactly : Type 0
 NumberExactly =
     (n : ℕ) (all : List ℕ) (mode : Mode) (h : Header) (m : List ℕ) → (n ≡ 0 → ⊥)
-    → (numberOf (judged all mode h m) ≡ n) ↔ Refusal all mode h m n
+    → (numberOfOrder (judged all mode h m) ≡ n) ↔ Refusal all mode h m n
 
-abbrev pub OnlyThese : Type 0
-OnlyThese = (n : ℕ) (all : List ℕ) (mode : Mode) (h : Header) (m : List ℕ) → Refusal all mode h m n → (9 ≤ n) × (n ≤ 13)
+abbrev pub OnlyNineTo13 : Type 0
+OnlyNineTo13 = (n : ℕ) (all : List ℕ) (mode : Mode) (h : Header) (m : List ℕ) → Refusal all mode h m n → (9 ≤ n) × (n ≤ 13)
 
 -- Examples of the order of the checks, for any packet that passes 9 and 10.
 pub record Examples (all : List ℕ) (mode : Mode) (h : Header) : Type 0 where
@@ -214,5 +214,5 @@ pub record Examples (all : List ℕ) (mode : Mode) (h : Header) : Type 0 where
   pub status-reply : (rest : List ℕ) → judged all mode h (0x86 ∷ rest) ≡ order.Refused 11
   pub registers-reply : (rest : List ℕ) → judged all mode h (0x90 ∷ rest) ≡ order.Refused 11
 
-abbrev pub InOrder : Type 0
-InOrder = (all : List ℕ) (mode : Mode) (h : Header) → Reached all h → Examples all mode h
+abbrev pub ChecksInOrder : Type 0
+ChecksInOrder = (all : List ℕ) (mode : Mode) (h : Header) → Reached all h → Examples all mode h

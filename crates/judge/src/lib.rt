@@ -1,7 +1,7 @@
 // What a packet asks for: the checks 9 to 13 in their order, and the command with its arguments taken apart. It sees no password.
 ghost use mathlib.Core.Path.{_≡_};
 ghost use Rattle.vault.specs.Vault.{inSetup};
-ghost use Rattle.judge.specs.Judge.{heard, directly, matching, targetOf, reached, verbOf, listed, argument, arguments, inRange, values, suits, toUs, direct, byLink, inNormal, permitted, componentOf, optional, ordered, judged};
+ghost use Rattle.judge.specs.Judge.{heard, directly, matching, targetOf, reached, verbOf, listed, argument, arguments, registersInRange, values, suits, toUs, directTo, byLink, isNormal, permitted, componentOf, optional, ordered, judged};
 use dimmer::Options;
 use packet::Header;
 use registers::Found;
@@ -170,13 +170,13 @@ fn values(message: &[u8]) -> usize
 
 // 1 to 16 registers, none past 0xFF.
 fn in_range(first: u8, count: usize) -> bool
-    ensures { λ r. ⌜ r ≡ inRange first count ⌝ }
+    ensures { λ r. ⌜ r ≡ registersInRange first count ⌝ }
 {
     1 <= count && (count <= MOST && (first as usize) + count <= registers::places::SIZE)
 }
 
 fn in_normal(mode: Mode) -> bool
-    ensures { λ r. ⌜ r ≡ inNormal mode ⌝ }
+    ensures { λ r. ⌜ r ≡ isNormal mode ⌝ }
 {
     match mode {
         Mode::Normal => true,
@@ -219,7 +219,7 @@ impl Target {
     }
 
     fn direct(self) -> bool
-        ensures { λ r. ⌜ r ≡ direct self ⌝ }
+        ensures { λ r. ⌜ r ≡ directTo self ⌝ }
     {
         match self {
             Target::Nobody => false,

@@ -7,7 +7,7 @@ use lib.Dec.{ltb, eqb}
 use borrow.Author.Tests.{lt-ltb, le-ltb, le-leb, lt-leb, eq-eqb, ne-eqb}
 use Rattle.words.specs.Words.{if_then_else_}
 use Rattle.words.proofs.Laws.{both, two-ways}
-use Rattle.timers.specs.Timers.{less, lessBy, turnedBy}
+use Rattle.timers.specs.Timers.{less, lessBy, metronomeBy}
 use Rattle.timers.proofs.Laws.{less-none, less-more, turned-none, turned-more}
 use Rattle.units.specs.declared.Step.{Step}
 use Rattle.vault.specs.declared.Mode.{Mode}
@@ -15,29 +15,29 @@ use Rattle.vault.specs.declared.Mode.the-variants.{Normal, Setup, Factory}
 use Rattle.lamp.specs.declared.Colour.{Colour}
 use Rattle.lamp.specs.declared.Colour.the-variants.{Red, Green, Orange}
 use Rattle.lamp.specs.declared.Lamp.{Lamp}
-use Rattle.lamp.specs.Lamp.{fresh, blinked, entered, next, blinking, bit, bitColour, versionColour, diagnostic, diagnosed, normalColour}
+use Rattle.lamp.specs.Lamp.{freshLamp, signalSet, entered, nextLamp, byHalves, bitOf, bitColour, versionColour, diagnostic, diagnosed, normalColour}
 use Rattle.lamp.specs.Lamp.{modeColour, colour, inverted, output}
-use Rattle.lamp.specs.Promises.{ticks, skip, blinkAfter, versionAfter, CaseI}
+use Rattle.lamp.specs.Promises.{lampTicks, lampSkip, blinkAfter, versionAfter, CaseI}
 
 -- No tick: the lamp is as it was.
-pub skip-none : (l : Lamp) → skip 0 l ≡ l
-unfolding skip
+pub skip-none : (l : Lamp) → lampSkip 0 l ≡ l
+unfolding lampSkip
 skip-none l = simp (less-none, turned-none)
 
 -- The closed form goes on as a tick does.
-pub skip-more : (n : ℕ) (l : Lamp) → next (skip n l) ≡ skip (suc n) l
-unfolding skip next
+pub skip-more : (n : ℕ) (l : Lamp) → nextLamp (lampSkip n l) ≡ lampSkip (suc n) l
+unfolding lampSkip nextLamp
 skip-more n l = simp (less-more, turned-more)
 
 -- So it is n single ticks.
-pub skip-ticks : (n : ℕ) (l : Lamp) → skip n l ≡ ticks n l
-unfolding ticks
+pub skip-ticks : (n : ℕ) (l : Lamp) → lampSkip n l ≡ lampTicks n l
+unfolding lampTicks
 skip-ticks zero l = skip-none l
-skip-ticks (suc n) l = sym (skip-more n l) ∙ ap next (skip-ticks n l)
+skip-ticks (suc n) l = sym (skip-more n l) ∙ ap nextLamp (skip-ticks n l)
 
 -- A blink shows its colour while 60 of its 120 ticks or more are left: in the first 60.
-blink-shows : (hue : Colour) (n left : ℕ) → left ≡ 119 - n % 120 → blinking hue left ≡ blinkAfter hue n
-unfolding blinking blinkAfter
+blink-shows : (hue : Colour) (n left : ℕ) → left ≡ 119 - n % 120 → byHalves hue left ≡ blinkAfter hue n
+unfolding byHalves blinkAfter
 blink-shows hue n left e =
     two-ways (n % 120) 60
     (λ (h : n % 120 < 60). simp (lt-ltb (n % 120) 60 h, le-leb 60 left (omega arith)))
@@ -45,15 +45,15 @@ blink-shows hue n left e =
 
 -- The version blinks: bit 3 for 60 ticks and black for 60, then bit 2, 1 and 0, for every digit and in every mode.
 pub version-shows : (n : ℕ) (l : Lamp) (mode : Mode) (digit options : ℕ) (level : Step) → l .version ≡ 480 → n < 480
-    → colour (skip n l) mode digit options level ≡ versionAfter digit n
-unfolding skip colour versionColour versionAfter less lessBy
+    → colour (lampSkip n l) mode digit options level ≡ versionAfter digit n
+unfolding lampSkip colour versionColour versionAfter less lessBy
 version-shows n l mode digit options level e h =
     let number : (480 - n - 1) / 120 ≡ 3 - n / 120 = omega arith in
-    simp (e, lt-ltb 0 (480 - n) (omega arith), number) (blink-shows (bitColour (bit digit (3 - n / 120))) n ((480 - n - 1) % 120) (omega arith))
+    simp (e, lt-ltb 0 (480 - n) (omega arith), number) (blink-shows (bitColour (bitOf digit (3 - n / 120))) n ((480 - n - 1) % 120) (omega arith))
 
 -- The low four bits of register 0x0B count, and no other.
-bit-low : (digit number : ℕ) → bit digit number ≡ bit (digit % 16) number
-unfolding bit
+bit-low : (digit number : ℕ) → bitOf digit number ≡ bitOf (digit % 16) number
+unfolding bitOf
 bit-low digit zero = omega arith
 bit-low digit (suc zero) = omega arith
 bit-low digit (suc (suc zero)) = omega arith
@@ -66,13 +66,13 @@ digit-low l mode digit options level = simp (bit-low digit (less (l .version) / 
 
 -- Once they are over, the mode says what shows.
 pub version-over : (n : ℕ) (l : Lamp) (mode : Mode) (digit options : ℕ) (level : Step) → l .version ≤ n
-    → colour (skip n l) mode digit options level ≡ modeColour mode (skip n l) options level
-unfolding skip colour lessBy
+    → colour (lampSkip n l) mode digit options level ≡ modeColour mode (lampSkip n l) options level
+unfolding lampSkip colour lessBy
 version-over n l mode digit options level h = simp (le-ltb 0 (l .version - n) (omega arith))
 
 -- Case (i) of document 01.
 pub case-i : (mode : Mode) (options : ℕ) (level : Step) → CaseI mode options level
-unfolding versionAfter blinkAfter bitColour bit
+unfolding versionAfter blinkAfter bitColour bitOf
 case-i mode options level = record {
   first = λ n h. at n (omega arith) ∙ seen n 3 (omega arith) (omega arith);
   second = λ n h. at (120 + n) (omega arith) ∙ seen (120 + n) 2 (omega arith) (omega arith);
@@ -80,46 +80,46 @@ case-i mode options level = record {
   fourth = λ n h. at (360 + n) (omega arith) ∙ seen (360 + n) 0 (omega arith) (omega arith);
 }
   where
-    at : (n : ℕ) → n < 480 → colour (ticks n fresh) mode 2 options level ≡ versionAfter 2 n
-    at n h = ap (λ (l : Lamp). colour l mode 2 options level) (sym (skip-ticks n fresh)) ∙ version-shows n fresh mode 2 options level refl h
+    at : (n : ℕ) → n < 480 → colour (lampTicks n freshLamp) mode 2 options level ≡ versionAfter 2 n
+    at n h = ap (λ (l : Lamp). colour l mode 2 options level) (sym (skip-ticks n freshLamp)) ∙ version-shows n freshLamp mode 2 options level refl h
 
-    seen : (n k : ℕ) → 3 - n / 120 ≡ k → n % 120 < 60 → versionAfter 2 n ≡ bitColour (bit 2 k)
+    seen : (n k : ℕ) → 3 - n / 120 ≡ k → n % 120 < 60 → versionAfter 2 n ≡ bitColour (bitOf 2 k)
     seen n k e h = simp (e, lt-ltb (n % 120) 60 h)
 
 -- "Mode blinks count from entry, colour first", also while the version blinks hide them.
-pub phase-after : (n : ℕ) (l : Lamp) → skip n (entered l) .phase ≡ 119 - n % 120
-unfolding skip entered turnedBy less
+pub phase-after : (n : ℕ) (l : Lamp) → lampSkip n (entered l) .phase ≡ 119 - n % 120
+unfolding lampSkip entered metronomeBy less
 phase-after n l =
     two-ways 119 n
     (λ (h : 119 < n). simp (lt-ltb 119 n h) (omega arith))
     (λ (h : n ≤ 119). simp (le-ltb 119 n h) (omega arith))
 
 module _ (n : ℕ) (l : Lamp) (digit options : ℕ) (level : Step) (over : l .version ≤ n) where
-  entry-shows : (mode : Mode) (hue : Colour) → ((k : Lamp) → modeColour mode k options level ≡ blinking hue (k .phase))
-      → colour (skip n (entered l)) mode digit options level ≡ blinkAfter hue n
+  entry-shows : (mode : Mode) (hue : Colour) → ((k : Lamp) → modeColour mode k options level ≡ byHalves hue (k .phase))
+      → colour (lampSkip n (entered l)) mode digit options level ≡ blinkAfter hue n
   unfolding entered
   entry-shows mode hue rule =
-      version-over n (entered l) mode digit options level over ∙ (rule (skip n (entered l)) ∙ blink-shows hue n (skip n (entered l) .phase) (phase-after n l))
+      version-over n (entered l) mode digit options level over ∙ (rule (lampSkip n (entered l)) ∙ blink-shows hue n (lampSkip n (entered l) .phase) (phase-after n l))
 
-  pub setup-shows : colour (skip n (entered l)) Setup digit options level ≡ blinkAfter Green n
+  pub setup-shows : colour (lampSkip n (entered l)) Setup digit options level ≡ blinkAfter Green n
   unfolding modeColour
   setup-shows = entry-shows Setup Green (λ k. refl)
 
-  pub factory-shows : colour (skip n (entered l)) Factory digit options level ≡ blinkAfter Red n
+  pub factory-shows : colour (lampSkip n (entered l)) Factory digit options level ≡ blinkAfter Red n
   unfolding modeColour
   factory-shows = entry-shows Factory Red (λ k. refl)
 
 -- A packet's blink shows in its own answer and in those of the next 29 ticks; then the diagnostic light is orange again.
-pub blink-lasts : (n : ℕ) (hue : Colour) (l : Lamp) → diagnosed (skip n (blinked hue l)) ≡ (if ltb n 30 then hue else Orange)
-unfolding skip blinked diagnosed lessBy
+pub blink-lasts : (n : ℕ) (hue : Colour) (l : Lamp) → diagnosed (lampSkip n (signalSet hue l)) ≡ (if ltb n 30 then hue else Orange)
+unfolding lampSkip signalSet diagnosed lessBy
 blink-lasts n hue l =
     two-ways n 30
     (λ (h : n < 30). simp (lt-ltb n 30 h, ne-eqb (30 - n) 0 (omega arith)))
     (λ (h : 30 ≤ n). simp (le-ltb n 30 h, eq-eqb (30 - n) 0 (omega arith)))
 
 -- The flash shows in the answer of the mode change and in those of the next 119 ticks.
-pub flash-lasts : (n : ℕ) (l : Lamp) (level : Step) → output (skip n (entered l)) level ≡ (if ltb n 120 then inverted level else level)
-unfolding skip entered output lessBy
+pub flash-lasts : (n : ℕ) (l : Lamp) (level : Step) → output (lampSkip n (entered l)) level ≡ (if ltb n 120 then inverted level else level)
+unfolding lampSkip entered output lessBy
 flash-lasts n l level =
     two-ways n 120
     (λ (h : n < 120). simp (lt-ltb n 120 h, ne-eqb (120 - n) 0 (omega arith)))
@@ -137,8 +137,8 @@ unfolding diagnosed
 orange l digit options level e b d = diagnostic-shows l digit options level e d ∙ simp b
 
 -- A packet's blink and a mode change leave the other timers alone, and so the colour that another rule gives.
-pub blinked-alone : (hue : Colour) (l : Lamp) → (blinked hue l .version ≡ l .version) × ((blinked hue l .phase ≡ l .phase) × (blinked hue l .flash ≡ l .flash))
-unfolding blinked
+pub blinked-alone : (hue : Colour) (l : Lamp) → (signalSet hue l .version ≡ l .version) × ((signalSet hue l .phase ≡ l .phase) × (signalSet hue l .flash ≡ l .flash))
+unfolding signalSet
 blinked-alone hue l = (refl, (refl, refl))
 
 pub entered-alone : (l : Lamp) → (entered l .version ≡ l .version) × ((entered l .blink ≡ l .blink) × (entered l .hue ≡ l .hue))

@@ -3,7 +3,7 @@ use mathlib.Core.Bool.{Bool}
 use Prim.Native.Nat.{ℕ, _/_, _%_, _^_}
 use lib.Dec.{ltb, leb, eqb}
 use Rattle.words.specs.Words.{if_then_else_}
-use Rattle.timers.specs.Timers.{less, turned}
+use Rattle.timers.specs.Timers.{less, metronome}
 use Rattle.units.specs.Units.{full, off}
 use Rattle.units.specs.declared.Step.{Step}
 use Rattle.vault.specs.declared.Mode.{Mode}
@@ -23,8 +23,8 @@ abbrev pub halfTicks : ℕ
 halfTicks = 60
 
 -- "for 30 ticks red on sending, else green on 0 or black on 4 to 8 from a packet"
-abbrev pub blinkTicks : ℕ
-blinkTicks = 30
+abbrev pub signalTicks : ℕ
+signalTicks = 30
 
 -- "After a mode change the output shows 0 for a nonzero level and 200 for 0 during 120 ticks."
 abbrev pub flashTicks : ℕ
@@ -34,38 +34,38 @@ abbrev pub lamp : ℕ → ℕ → ℕ → Colour → ℕ → Lamp
 lamp version phase blink hue flash = record { version = version; phase = phase; blink = blink; hue = hue; flash = flash }
 
 -- "Start and restart: .. timers clear (no mode-change flash)", but for the version blinks.
-abbrev pub started : ℕ → Lamp
-started version = lamp version 0 0 Black 0
+abbrev pub clearLamp : ℕ → Lamp
+clearLamp version = lamp version 0 0 Black 0
 
-abbrev pub fresh : Lamp
-fresh = started versionTicks
+abbrev pub freshLamp : Lamp
+freshLamp = clearLamp versionTicks
 
 -- "The 30-tick blink runs under any rule, seen or not; a newer one replaces it."
-unfoldable pub blinked : Colour → Lamp → Lamp
-blinked hue l = lamp (l .version) (l .phase) blinkTicks hue (l .flash)
+unfoldable pub signalSet : Colour → Lamp → Lamp
+signalSet hue l = lamp (l .version) (l .phase) signalTicks hue (l .flash)
 
 -- "Mode blinks count from entry, colour first."
 unfoldable pub entered : Lamp → Lamp
 entered l = lamp (l .version) (less turnTicks) (l .blink) (l .hue) flashTicks
 
 -- A tick.
-unfoldable pub next : Lamp → Lamp
-next l = lamp (less (l .version)) (turned turnTicks (l .phase)) (less (l .blink)) (l .hue) (less (l .flash))
+unfoldable pub nextLamp : Lamp → Lamp
+nextLamp l = lamp (less (l .version)) (metronome turnTicks (l .phase)) (less (l .blink)) (l .hue) (less (l .flash))
 
 -- 60 ticks colour and 60 black, by the ticks left of the 120 after this one.
-unfoldable pub blinking : Colour → ℕ → Colour
-blinking hue left = if leb halfTicks left then hue else Black
+unfoldable pub byHalves : Colour → ℕ → Colour
+byHalves hue left = if leb halfTicks left then hue else Black
 
 -- "green 1 and red 0"; the digit is the low four bits.
-unfoldable pub bit : ℕ → ℕ → ℕ
-bit digit number = if ltb 3 number then 0 else digit / 2 ^ number % 2
+unfoldable pub bitOf : ℕ → ℕ → ℕ
+bitOf digit number = if ltb 3 number then 0 else digit / 2 ^ number % 2
 
 unfoldable pub bitColour : ℕ → Colour
 bitColour one = if eqb one 1 then Green else Red
 
 -- "high bit first": by the ticks left of the 480 after this one.
 unfoldable pub versionColour : ℕ → ℕ → Colour
-versionColour digit left = blinking (bitColour (bit digit (left / turnTicks))) (left % turnTicks)
+versionColour digit left = byHalves (bitColour (bitOf digit (left / turnTicks))) (left % turnTicks)
 
 -- "diagnostic (bit 7 of 0x8B)"
 unfoldable pub diagnostic : ℕ → Bool
@@ -76,20 +76,20 @@ unfoldable pub diagnosed : Lamp → Colour
 diagnosed l = if eqb (l .blink) 0 then Orange else l .hue
 
 -- "00 black, 01 red, 10 green, 11 orange"
-unfoldable pub colourOf : ℕ → Colour
-colourOf code = if eqb code 0 then Black else if eqb code 1 then Red else if eqb code 2 then Green else Orange
+unfoldable pub colourOfBits : ℕ → Colour
+colourOfBits code = if eqb code 0 then Black else if eqb code 1 then Red else if eqb code 2 then Green else Orange
 
 -- "else by level, bits 3-2 on and 1-0 off"
 unfoldable pub byLevel : ℕ → Step → Colour
-byLevel options level = if eqb (level .0) 0 then colourOf (options % 4) else colourOf (options / 4 % 4)
+byLevel options level = if eqb (level .0) 0 then colourOfBits (options % 4) else colourOfBits (options / 4 % 4)
 
 unfoldable pub normalColour : Lamp → ℕ → Step → Colour
 normalColour l options level = if diagnostic options then diagnosed l else byLevel options level
 
 -- "Setup green and black by 60s; Factory Default red and black"
 unfoldable pub modeColour : Mode → Lamp → ℕ → Step → Colour
-modeColour Setup l options level = blinking Green (l .phase)
-modeColour Factory l options level = blinking Red (l .phase)
+modeColour Setup l options level = byHalves Green (l .phase)
+modeColour Factory l options level = byHalves Red (l .phase)
 modeColour Normal l options level = normalColour l options level
 
 -- "First that applies": the version blinks, and then by the mode.

@@ -2,8 +2,8 @@
 use units::Step;
 use vault::Mode;
 ghost use mathlib.Core.Path.{_≡_};
-ghost use Rattle.lamp.specs.Lamp.{fresh, blinked, entered, next, colour, output};
-ghost use Rattle.lamp.specs.Lamp.{modeColour, versionColour, bit, bitColour, blinking, normalColour, diagnostic, diagnosed, byLevel, colourOf, inverted};
+ghost use Rattle.lamp.specs.Lamp.{freshLamp, signalSet, entered, nextLamp, colour, output};
+ghost use Rattle.lamp.specs.Lamp.{modeColour, versionColour, bitOf, bitColour, byHalves, normalColour, diagnostic, diagnosed, byLevel, colourOfBits, inverted};
 
 // Ticks of the four version blinks.
 const VERSION: u16 = 480;
@@ -35,7 +35,7 @@ pub struct Lamp {
 impl Lamp {
     // As after a start or a restart.
     pub fn fresh() -> Lamp
-        ensures { λ r. ⌜ r ≡ fresh ⌝ }
+        ensures { λ r. ⌜ r ≡ freshLamp ⌝ }
     {
         Lamp {
             version: VERSION,
@@ -48,7 +48,7 @@ impl Lamp {
 
     // A packet was sent or received: a newer blink replaces an older one.
     pub fn blinked(self, hue: Colour) -> Lamp
-        ensures { λ r. ⌜ r ≡ blinked hue self ⌝ }
+        ensures { λ r. ⌜ r ≡ signalSet hue self ⌝ }
     {
         Lamp {
             version: self.version,
@@ -69,7 +69,7 @@ impl Lamp {
     }
 
     pub fn tick(mut self) -> Lamp
-        ensures { λ r. ⌜ r ≡ next self ⌝ }
+        ensures { λ r. ⌜ r ≡ nextLamp self ⌝ }
     {
         self.version = timers::run(self.version);
         self.phase = timers::turn(TURN, self.phase);
@@ -139,7 +139,7 @@ fn version_colour(digit: u8, left: u16) -> Colour
 
 // The version digit has four bits.
 fn bit(digit: u8, number: u16) -> u8
-    ensures { λ r. ⌜ r ≡ bit digit number ⌝ }
+    ensures { λ r. ⌜ r ≡ bitOf digit number ⌝ }
 {
     if 3 < number {
         return 0;
@@ -157,7 +157,7 @@ fn bit_colour(one: u8) -> Colour
 }
 
 fn blinking(hue: Colour, phase: u16) -> Colour
-    ensures { λ r. ⌜ r ≡ blinking hue phase ⌝ }
+    ensures { λ r. ⌜ r ≡ byHalves hue phase ⌝ }
 {
     if HALF <= phase {
         return hue;
@@ -181,7 +181,7 @@ fn by_level(options: u8, level: Step) -> Colour
 }
 
 fn colour_of(code: u8) -> Colour
-    ensures { λ r. ⌜ r ≡ colourOf code ⌝ }
+    ensures { λ r. ⌜ r ≡ colourOfBits code ⌝ }
 {
     match code {
         0 => Colour::Black,

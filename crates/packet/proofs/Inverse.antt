@@ -13,15 +13,15 @@ use Rattle.words.proofs.Laws.{cases}
 use Rattle.packet.specs.declared.Header.{Header}
 use Rattle.packet.specs.declared.Frame.the-variants.{Read}
 use Rattle.packet.specs.declared.Written.the-variants as written
-use Rattle.packet.specs.Layout.{firstByte, linkIn, repeatIn, wholeIn, secondByte, reservedIn, requestIn, countIn, sequenceIn, headerIn, headed, total, balance, packed}
+use Rattle.packet.specs.Layout.{firstByte, linkBit, repeatIn, wholeIn, secondByte, reservedIn, requestIn, countIn, sequenceIn, headerIn, headBytes, total, balance, packed}
 use Rattle.packet.specs.Reading.{readOf, messageOf}
 use Rattle.packet.specs.Writing.{laid}
-use Rattle.packet.specs.Promises.{ReadsBack, WritesBack, ReadsBackLent, WritesBackLent, Cases}
+use Rattle.packet.specs.Promises.{ReadsBack, WritesBack, ReadsBackLent, WritesBackLent, WorkedPackets}
 use Rattle.packet.proofs.Laws.{only, sound, message-is, message-length, read-ranges, packed-length, written-length, written-whole}
 
 -- The fields put into byte 0 are taken out of it.
 pub first-back : (link : Bool) (repeat whole : ℕ) → repeat ≤ 3 → whole < 32
-    → (linkIn (firstByte link repeat whole) ≡ link)
+    → (linkBit (firstByte link repeat whole) ≡ link)
     × ((repeatIn (firstByte link repeat whole) ≡ repeat) × (wholeIn (firstByte link repeat whole) ≡ whole))
 unfolding firstByte wholeIn
 first-back true repeat whole r w =
@@ -38,10 +38,10 @@ unfolding secondByte reservedIn
 second-back request count sequence r c s = (omega arith, (omega arith, (omega arith, omega arith)))
 
 -- Byte 0 is put together again from its fields.
-pub first-again : (a : ℕ) → a < 256 → firstByte (linkIn a) (repeatIn a) (wholeIn a) ≡ a
+pub first-again : (a : ℕ) → a < 256 → firstByte (linkBit a) (repeatIn a) (wholeIn a) ≡ a
 unfolding firstByte wholeIn
 first-again a h =
-    cases (λ (bit : ℕ). bit * 128 + (a / 32 % 4 * 32 + a % 32) ≡ a) (linkIn a)
+    cases (λ (bit : ℕ). bit * 128 + (a / 32 % 4 * 32 + a % 32) ≡ a) (linkBit a)
     (λ e. omega (arith, eqb-true (a / 128 % 2) 1 e, div-div-eq-div-mul a 32 4))
     (λ e. omega (arith, eqb-false (a / 128 % 2) 1 e, div-div-eq-div-mul a 32 4))
 
@@ -71,7 +71,7 @@ balance-only front last byte zero = omega (arith, rw total-append at zero)
 
 -- Reading what was written gives back header and message.
 pub reads-back : ReadsBack
-unfolding packed headed headerIn messageOf
+unfolding packed headBytes headerIn messageOf
 reads-back h m r =
     let n = length (packed h m) in
     let long : n ≡ length m + 6 = packed-length h m in
@@ -83,7 +83,7 @@ reads-back h m r =
       least = omega arith;
       most = omega arith;
       whole = first .1 .1 ∙ sym long;
-      sum = balanced (headed h (length m) m);
+      sum = balanced (headBytes h (length m) m);
       reserved = second .0;
       header = λ i. record {
         link = sym (first .0) i;
@@ -96,7 +96,7 @@ reads-back h m r =
         source = h .source;
       };
     } in
-    (header, rw header (take-at m (balance (total (headed h (length m) m) % 256) ∷ []) (n - 6) (omega arith)))
+    (header, rw header (take-at m (balance (total (headBytes h (length m) m) % 256) ∷ []) (n - 6) (omega arith)))
 
 -- A list of five bytes and more is its first five and the rest.
 five : (p : List ℕ) → 5 ≤ length p → getD p 0 0 ∷ getD p 1 0 ∷ getD p 2 0 ∷ getD p 3 0 ∷ getD p 4 0 ∷ drop 5 p ≡ p
@@ -115,8 +115,8 @@ tail p h e =
 
 -- A packet that is read is its header's five bytes, its message and a last byte.
 pub parted : (p : List ℕ) (h : Header) → Bytes p → readOf p ≡ Read h
-    → headed h (length (messageOf p)) (messageOf p) ++ getD p (length p - 1) 0 ∷ [] ≡ p
-unfolding headed headerIn
+    → headBytes h (length (messageOf p)) (messageOf p) ++ getD p (length p - 1) 0 ∷ [] ≡ p
+unfolding headBytes headerIn
 parted p h bytes e =
     let s = sound p h e in
     let first : firstByte (h .link) (h .repeat) (length (messageOf p) + 6) ≡ getD p 0 0 =
@@ -129,7 +129,7 @@ parted p h bytes e =
 pub writes-back : WritesBack
 unfolding packed
 writes-back p h bytes e =
-    let front = headed h (length (messageOf p)) (messageOf p) in
+    let front = headBytes h (length (messageOf p)) (messageOf p) in
     let last = getD p (length p - 1) 0 in
     let whole = parted p h bytes e in
     rw (balance-only front last (bytes (length p - 1)) (rw whole (sound p h e .sum))) whole
@@ -154,6 +154,6 @@ writes-back-lent p h before after answer bytes e room w =
     (x .0, (rw left (take-at p (drop n before) n refl), rw left (drop-at p (drop n before) n refl)))
 
 -- The worked packets of document 01.
-pub worked : Cases
-unfolding readOf messageOf packed headed headerIn firstByte secondByte wholeIn reservedIn total balance
+pub worked : WorkedPackets
+unfolding readOf messageOf packed headBytes headerIn firstByte secondByte wholeIn reservedIn total balance
 worked = record { asked = refl; message = refl; answer = refl; damaged = refl }

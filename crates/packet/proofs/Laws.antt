@@ -16,18 +16,18 @@ use Rattle.packet.specs.declared.Frame.{Frame}
 use Rattle.packet.specs.declared.Frame.the-variants.{Read, Short, Long, Length, Sum, Reserved}
 use Rattle.packet.specs.declared.Written.{Written}
 use Rattle.packet.specs.declared.Written.the-variants as written
-use Rattle.packet.specs.Layout.{headerIn, wholeIn, reservedIn, headed, total, packed}
-use Rattle.packet.specs.Reading.{readOf, numberOf, messageOf}
-use Rattle.packet.specs.Writing.{inRange, writtenOf, numberOfWritten, laid, Wrote}
-use Rattle.packet.specs.Promises.{Sized, Counted, Summed, Given, Sound, GivenExactly, Ranges, GivenWritten, WrittenExactly, OneOutcome}
-use Rattle.packet.specs.Promises.{Row, done, too-short, too-long, wrong-length, wrong-sum, reserved-bit, WrittenRow, whole, out-of-range, no-room}
+use Rattle.packet.specs.Layout.{headerIn, wholeIn, reservedIn, headBytes, total, packed}
+use Rattle.packet.specs.Reading.{readOf, numberOfFrame, messageOf}
+use Rattle.packet.specs.Writing.{fieldsInRange, writtenOf, numberOfWritten, laid, Wrote}
+use Rattle.packet.specs.Promises.{Sized, Counted, Summed, Reads, Sound, ReadExactly, Ranges, GivenWritten, WrittenExactly, WritesOneWay}
+use Rattle.packet.specs.Promises.{ReadRow, done, too-short, too-long, wrong-length, wrong-sum, reserved-bit, WrittenRow, whole, out-of-range, no-room}
 use Rattle.packet.proofs.Frame.{the-type}
 
 -- What the reader answers meets its row of the table.
-pub given : (p : List ℕ) → Given (readOf p) p
+pub given : (p : List ℕ) → Reads (readOf p) p
 unfolding readOf
 given p =
-    let row : Frame → Type 0 = λ f. Given f p in
+    let row : Frame → Type 0 = λ f. Reads f p in
     cases row (ltb (length p) 7) (ltb-true _ _)
     (λ a. cases row (ltb 24 (length p)) (ltb-true _ _)
     (λ b. let sized : Sized p = (ltb-false _ _ a, ltb-false _ _ b) in
@@ -46,7 +46,7 @@ given p =
     })))))
 
 -- A row of the table whose condition holds is what the reader answers.
-pub only : (f : Frame) (p : List ℕ) → Given f p → readOf p ≡ f
+pub only : (f : Frame) (p : List ℕ) → Reads f p → readOf p ≡ f
 unfolding readOf
 only Short p g = search tests
 only Long p g = let least : 7 ≤ length p = omega arith in search tests
@@ -56,7 +56,7 @@ only Reserved p g = search tests
 only (Read h) p g = rw (g .header) (search tests)
 
 -- What the reader answers has that answer's number, and its row.
-row-of : (f : Frame) (p : List ℕ) → Given f p → Row p (numberOf f)
+row-of : (f : Frame) (p : List ℕ) → Reads f p → ReadRow p (numberOfFrame f)
 row-of Short p g = too-short g
 row-of Long p g = too-long g
 row-of Length p g = wrong-length g
@@ -64,23 +64,23 @@ row-of Sum p g = wrong-sum g
 row-of Reserved p g = reserved-bit g
 row-of (Read h) p g = done h g
 
-row-only : (p : List ℕ) (n : ℕ) → Row p n → numberOf (readOf p) ≡ n
-row-only p n (done h g) = ap numberOf (only (Read h) p g)
-row-only p n (too-short g) = ap numberOf (only Short p g)
-row-only p n (too-long g) = ap numberOf (only Long p g)
-row-only p n (wrong-length g) = ap numberOf (only Length p g)
-row-only p n (wrong-sum g) = ap numberOf (only Sum p g)
-row-only p n (reserved-bit g) = ap numberOf (only Reserved p g)
+row-only : (p : List ℕ) (n : ℕ) → ReadRow p n → numberOfFrame (readOf p) ≡ n
+row-only p n (done h g) = ap numberOfFrame (only (Read h) p g)
+row-only p n (too-short g) = ap numberOfFrame (only Short p g)
+row-only p n (too-long g) = ap numberOfFrame (only Long p g)
+row-only p n (wrong-length g) = ap numberOfFrame (only Length p g)
+row-only p n (wrong-sum g) = ap numberOfFrame (only Sum p g)
+row-only p n (reserved-bit g) = ap numberOfFrame (only Reserved p g)
 
 -- Each of the reader's numbers is given exactly when its row of the table says.
-pub exactly : GivenExactly
+pub exactly : ReadExactly
 exactly = record {
-  answer = λ f p. (λ e. subst (λ (f : Frame). Given f p) e (given p), only f p);
-  number = λ p n. (λ e. subst (Row p) e (row-of (readOf p) p (given p)), row-only p n);
+  answer = λ f p. (λ e. subst (λ (f : Frame). Reads f p) e (given p), only f p);
+  number = λ p n. (λ e. subst (ReadRow p) e (row-of (readOf p) p (given p)), row-only p n);
 }
 
 -- A refusal's number is 4 to 8.
-pub refusal-number : (f : Frame) → (numberOf f ≡ 0 → ⊥) → (4 ≤ numberOf f) × (numberOf f ≤ 8)
+pub refusal-number : (f : Frame) → (numberOfFrame f ≡ 0 → ⊥) → (4 ≤ numberOfFrame f) × (numberOfFrame f ≤ 8)
 refusal-number (Read h) n = absurd (n refl)
 refusal-number Short n = omega arith
 refusal-number Long n = omega arith
@@ -89,7 +89,7 @@ refusal-number Sum n = omega arith
 refusal-number Reserved n = omega arith
 
 -- A frame that `let Frame::Read(..) = frame else` leaves is a refusal.
-pub not-read : (f : Frame) → OneOf (1 ∷ 2 ∷ 3 ∷ 4 ∷ 5 ∷ []) (tagOf the-type f) → numberOf f ≡ 0 → ⊥
+pub not-read : (f : Frame) → OneOf (1 ∷ 2 ∷ 3 ∷ 4 ∷ 5 ∷ []) (tagOf the-type f) → numberOfFrame f ≡ 0 → ⊥
 not-read (Read h) k z = miss (1 ∷ 2 ∷ 3 ∷ 4 ∷ 5 ∷ []) 0 tt k
 not-read Short k z = omega arith
 not-read Long k z = omega arith
@@ -113,13 +113,13 @@ message-length p h e =
     rw (message-is p h e, length-take, length-drop) (omega arith)
 
 -- The message of a refused packet is empty.
-pub message-refused : (p : List ℕ) → (numberOf (readOf p) ≡ 0 → ⊥) → messageOf p ≡ []
+pub message-refused : (p : List ℕ) → (numberOfFrame (readOf p) ≡ 0 → ⊥) → messageOf p ≡ []
 unfolding messageOf
 message-refused p refused = search tests
 
 -- The writer's ranges, each by itself.
-pub ranges : (h : Header) (size : ℕ) → inRange h size ≡ true → Ranges h size
-unfolding inRange
+pub ranges : (h : Header) (size : ℕ) → fieldsInRange h size ≡ true → Ranges h size
+unfolding fieldsInRange
 ranges h size e =
     let a = and-eq-true-iff _ _ .0 e in
     let b = and-eq-true-iff _ _ .0 (a .1) in
@@ -136,8 +136,8 @@ ranges h size e =
     }
 
 -- Fields in range and a message of 1 to 18 bytes pass the writer's first check.
-pub in-range : (h : Header) (size : ℕ) → Ranges h size → inRange h size ≡ true
-unfolding inRange
+pub in-range : (h : Header) (size : ℕ) → Ranges h size → fieldsInRange h size ≡ true
+unfolding fieldsInRange
 in-range h size r = search tests
 
 -- What the writer answers meets its row of the table.
@@ -145,7 +145,7 @@ pub written-given : (h : Header) (size room : ℕ) → GivenWritten (writtenOf h
 unfolding writtenOf
 written-given h size room =
     let row : Written → Type 0 = λ w. GivenWritten w h size room in
-    cases row (not (inRange h size)) (λ e r. false≢true (sym (not-true _ e) ∙ in-range h size r))
+    cases row (not (fieldsInRange h size)) (λ e r. false≢true (sym (not-true _ e) ∙ in-range h size r))
     (λ fit. cases row (ltb room (size + 6)) (λ e. (ranges h size (not-false _ fit), ltb-true _ _ e))
     (λ e. (ranges h size (not-false _ fit), (ltb-false _ _ e, refl))))
 
@@ -153,7 +153,7 @@ written-given h size room =
 pub written-only : (w : Written) (h : Header) (size room : ℕ) → GivenWritten w h size room → writtenOf h size room ≡ w
 unfolding writtenOf
 written-only written.Field h size room g =
-    cases (λ (w : Written). w ≡ written.Field) (not (inRange h size)) (λ e. refl) (λ e. absurd (g (ranges h size (not-false _ e))))
+    cases (λ (w : Written). w ≡ written.Field) (not (fieldsInRange h size)) (λ e. refl) (λ e. absurd (g (ranges h size (not-false _ e))))
 written-only written.Short h size room g = rw (in-range h size (g .0)) (search tests)
 written-only (written.Packet n) h size room g = rw (in-range h size (g .0), g .1 .1) (search tests)
 
@@ -178,14 +178,14 @@ exactly-written = record {
 }
 
 -- No two outcomes: the writer's promise fixes the answer and every byte of the buffer.
-pub one-written : OneOutcome
+pub one-written : WritesOneWay
 one-written h m before after after′ w w′ x y =
     let same : w ≡ w′ = one-outcome w w′ (x .answered) (y .answered) in
     (same, x .bytes ∙ rw same (sym (y .bytes)))
 
 -- A written packet is its message and six bytes long.
 pub packed-length : (h : Header) (m : List ℕ) → length (packed h m) ≡ length m + 6
-unfolding packed headed
+unfolding packed headBytes
 packed-length h m = simp length-append (omega arith)
 
 -- What the writer's promise says where it answers a length: the ranges, the length, and that it is 7 to 24 and within the buffer.

@@ -12,7 +12,7 @@ use lib.ListN.{length, getD, take, drop, set, length-drop}
 use lib.Seq.{drop-cons, paste, take-length, take-at, set-at, drop-drop, append-snoc}
 use Rattle.words.specs.Words.{if_then_else_}
 use Rattle.packet.specs.declared.Header.{Header}
-use Rattle.packet.specs.Layout.{headed, total, balance, packed}
+use Rattle.packet.specs.Layout.{headBytes, total, balance, packed}
 
 -- A field shifted past another one and joined with it by `|` is their sum.
 pub joined : (a k b : ℕ) → a * 2 ^ k < 256 → b < 2 ^ k → bitOr (a * 2 ^ k % 256) b ≡ a * 2 ^ k + b
@@ -35,17 +35,17 @@ total-drop p i h = rw (add-one, drop-cons p i 0)
 
 -- The header's bytes, the copied message and the balanced sum, each as its function leaves it, are the packet at the front of the buffer.
 pub laid-out : (h : Header) (m out head copy : List ℕ) (sum last : ℕ) → length m + 6 ≤ length out
-    → head ≡ headed h (length m) (drop 5 out)
+    → head ≡ headBytes h (length m) (drop 5 out)
     → copy ≡ paste head 5 m (length m)
     → sum ≡ total (take (5 + length m) copy) % 256
     → last ≡ balance sum
     → set copy (5 + length m) last ≡ packed h m ++ drop (length m + 6) out
-unfolding headed packed
+unfolding headBytes packed
 laid-out h m out head copy sum last room head-is copy-is sum-is last-is =
-    let front = headed h (length m) m in
+    let front = headBytes h (length m) m in
     let left = drop 5 out in
     let n = length m in
-    let copied : copy ≡ front ++ drop n left = copy-is ∙ rw (head-is, take-length m, ← drop-drop n 5 (headed h n left)) in
+    let copied : copy ≡ front ++ drop n left = copy-is ∙ rw (head-is, take-length m, ← drop-drop n 5 (headBytes h n left)) in
     let balanced : last ≡ balance (total front % 256) =
     last-is ∙ ap balance (sum-is ∙ rw (copied, take-at front (drop n left) (5 + n) (omega arith))) in
     let six : 5 + suc n ≡ n + 6 = omega arith in

@@ -11,8 +11,8 @@ use Rattle.packet.specs.declared.Header.{Header}
 unfoldable pub firstByte : Bool → ℕ → ℕ → ℕ
 firstByte link repeat whole = (if link then 1 else 0) * 128 + (repeat * 32 + whole)
 
-abbrev pub linkIn : ℕ → Bool
-linkIn first = eqb (first / 128 % 2) 1
+abbrev pub linkBit : ℕ → Bool
+linkBit first = eqb (first / 128 % 2) 1
 
 abbrev pub repeatIn : ℕ → ℕ
 repeatIn first = first / 32 % 4
@@ -40,7 +40,7 @@ sequenceIn second = second % 4
 unfoldable pub headerIn : ℕ → ℕ → ℕ → ℕ → ℕ → Header
 headerIn first second network destination source =
     record {
-      link = linkIn first;
+      link = linkBit first;
       repeat = repeatIn first;
       request = requestIn second;
       count = countIn second;
@@ -60,8 +60,8 @@ unfoldable pub balance : ℕ → ℕ
 balance sum = (256 - sum) % 256
 
 -- the five bytes before a message of size bytes
-unfoldable pub headed : Header → ℕ → List ℕ → List ℕ
-headed h size rest =
+unfoldable pub headBytes : Header → ℕ → List ℕ → List ℕ
+headBytes h size rest =
     firstByte (h .link) (h .repeat) (size + 6)
     ∷ secondByte (h .request) (h .count) (h .sequence)
     ∷ h .network
@@ -72,4 +72,4 @@ headed h size rest =
 -- "Then network, destination, source, message of 1 to 18 bytes, checksum."
 unfoldable pub packed : Header → List ℕ → List ℕ
 packed h message =
-    headed h (length message) message ++ balance (total (headed h (length message) message) % 256) ∷ []
+    headBytes h (length message) message ++ balance (total (headBytes h (length message) message) % 256) ∷ []

@@ -13,7 +13,7 @@ use Rattle.packet.specs.declared.Frame.the-variants.{Read, Short, Long, 
 use Rattle.packet.specs.declared.Written.{Written}
 use Rattle.packet.specs.declared.Written.the-variants as written
 use Rattle.packet.specs.Layout.{wholeIn, reservedIn, headerIn, total, packed}
-use Rattle.packet.specs.Reading.{readOf, numberOf, messageOf}
+use Rattle.packet.specs.Reading.{readOf, numberOfFrame, messageOf}
 use Rattle.packet.specs.Writing.{writtenOf, numberOfWritten, Wrote}
 
 -- passes 4 and 5
@@ -38,27 +38,27 @@ pub record Sound (p : List ℕ) (h : Header) : Type 0 where
   pub header : h ≡ headerIn (getD p 0 0) (getD p 1 0) (getD p 2 0) (getD p 3 0) (getD p 4 0)
 
 -- the reader's rows of the table: the row's condition, and none of an earlier row
-abbrev pub Given : Frame → List ℕ → Type 0
-Given Short p = length p < 7
-Given Long p = 24 < length p
-Given Length p = Sized p × (wholeIn (getD p 0 0) ≡ length p → ⊥)
-Given Sum p = Counted p × (total p % 256 ≡ 0 → ⊥)
-Given Reserved p = Summed p × (reservedIn (getD p 1 0) ≡ 0 → ⊥)
-Given (Read h) p = Sound p h
+abbrev pub Reads : Frame → List ℕ → Type 0
+Reads Short p = length p < 7
+Reads Long p = 24 < length p
+Reads Length p = Sized p × (wholeIn (getD p 0 0) ≡ length p → ⊥)
+Reads Sum p = Counted p × (total p % 256 ≡ 0 → ⊥)
+Reads Reserved p = Summed p × (reservedIn (getD p 1 0) ≡ 0 → ⊥)
+Reads (Read h) p = Sound p h
 
 -- the same rows by their numbers
-pub data Row (p : List ℕ) : ℕ → Type 0 where
-  done : (h : Header) → Given (Read h) p → Row p 0
-  too-short : Given Short p → Row p 4
-  too-long : Given Long p → Row p 5
-  wrong-length : Given Length p → Row p 6
-  wrong-sum : Given Sum p → Row p 7
-  reserved-bit : Given Reserved p → Row p 8
+pub data ReadRow (p : List ℕ) : ℕ → Type 0 where
+  done : (h : Header) → Reads (Read h) p → ReadRow p 0
+  too-short : Reads Short p → ReadRow p 4
+  too-long : Reads Long p → ReadRow p 5
+  wrong-length : Reads Length p → ReadRow p 6
+  wrong-sum : Reads Sum p → ReadRow p 7
+  reserved-bit : Reads Reserved p → ReadRow p 8
 
 -- "Given exactly when", for the reader: its answer, and the number of that.
-pub record GivenExactly : Type 0 where
-  pub answer : (f : Frame) (p : List ℕ) → (readOf p ≡ f) ↔ Given f p
-  pub number : (p : List ℕ) (n : ℕ) → (numberOf (readOf p) ≡ n) ↔ Row p n
+pub record ReadExactly : Type 0 where
+  pub answer : (f : Frame) (p : List ℕ) → (readOf p ≡ f) ↔ Reads f p
+  pub number : (p : List ℕ) (n : ℕ) → (numberOfFrame (readOf p) ≡ n) ↔ ReadRow p n
 
 -- A header whose fields are in range, and a message of 1 to 18 bytes.
 pub record Ranges (h : Header) (size : ℕ) : Type 0 where
@@ -87,8 +87,8 @@ pub record WrittenExactly : Type 0 where
   pub number : (h : Header) (size room n : ℕ) → (numberOfWritten (writtenOf h size room) ≡ n) ↔ WrittenRow h size room n
 
 -- No two outcomes: the writer's promise fixes the answer and every byte of the buffer.
-abbrev pub OneOutcome : Type 0
-OneOutcome =
+abbrev pub WritesOneWay : Type 0
+WritesOneWay =
     (h : Header) (message before after after′ : List ℕ) (w w′ : Written)
     → Wrote h message before w after → Wrote h message before w′ after′ → (w ≡ w′) × (after ≡ after′)
 
@@ -116,8 +116,8 @@ WritesBackLent =
     → (answer ≡ written.Packet (length p)) × ((take (length p) after ≡ p) × (drop (length p) after ≡ drop (length p) before))
 
 -- a direct packet's header with repeat, request, count and sequence bits 0
-abbrev pub direct : ℕ → ℕ → ℕ → Header
-direct network destination source =
+abbrev pub directHeader : ℕ → ℕ → ℕ → Header
+directHeader network destination source =
     record {
       link = false;
       repeat = 0;
@@ -130,8 +130,8 @@ direct network destination source =
     }
 
 -- "(a) 07 00 01 05 09 30 BA is answered by 08 00 01 09 05 86 28 3B." "(e) last byte of (a) BB: 7."
-pub record Cases : Type 0 where
-  pub asked : readOf (0x07 ∷ 0x00 ∷ 0x01 ∷ 0x05 ∷ 0x09 ∷ 0x30 ∷ 0xBA ∷ []) ≡ Read (direct 1 5 9)
+pub record WorkedPackets : Type 0 where
+  pub asked : readOf (0x07 ∷ 0x00 ∷ 0x01 ∷ 0x05 ∷ 0x09 ∷ 0x30 ∷ 0xBA ∷ []) ≡ Read (directHeader 1 5 9)
   pub message : messageOf (0x07 ∷ 0x00 ∷ 0x01 ∷ 0x05 ∷ 0x09 ∷ 0x30 ∷ 0xBA ∷ []) ≡ 0x30 ∷ []
-  pub answer : packed (direct 1 9 5) (0x86 ∷ 0x28 ∷ []) ≡ 0x08 ∷ 0x00 ∷ 0x01 ∷ 0x09 ∷ 0x05 ∷ 0x86 ∷ 0x28 ∷ 0x3B ∷ []
-  pub damaged : numberOf (readOf (0x07 ∷ 0x00 ∷ 0x01 ∷ 0x05 ∷ 0x09 ∷ 0x30 ∷ 0xBB ∷ [])) ≡ 7
+  pub answer : packed (directHeader 1 9 5) (0x86 ∷ 0x28 ∷ []) ≡ 0x08 ∷ 0x00 ∷ 0x01 ∷ 0x09 ∷ 0x05 ∷ 0x86 ∷ 0x28 ∷ 0x3B ∷ []
+  pub damaged : numberOfFrame (readOf (0x07 ∷ 0x00 ∷ 0x01 ∷ 0x05 ∷ 0x09 ∷ 0x30 ∷ 0xBB ∷ [])) ≡ 7

@@ -21,14 +21,14 @@ readOf p =
     else Read (headerIn (getD p 0 0) (getD p 1 0) (getD p 2 0) (getD p 3 0) (getD p 4 0))
 
 -- the number of each answer
-abbrev pub numberOf : Frame → ℕ
-numberOf (Read h) = 0
-numberOf Short = 4
-numberOf Long = 5
-numberOf Length = 6
-numberOf Sum = 7
-numberOf Reserved = 8
+abbrev pub numberOfFrame : Frame → ℕ
+numberOfFrame (Read h) = 0
+numberOfFrame Short = 4
+numberOfFrame Long = 5
+numberOfFrame Length = 6
+numberOfFrame Sum = 7
+numberOfFrame Reserved = 8
 
 -- "hands back the message as that stretch of the caller's own packet, and a stretch of length 0 where the reader refuses"
 unfoldable pub messageOf : List ℕ → List ℕ
-messageOf p = if eqb (numberOf (readOf p)) 0 then take (length p - 6) (drop 5 p) else []
+messageOf p = if eqb (numberOfFrame (readOf p)) 0 then take (length p - 6) (drop 5 p) else []

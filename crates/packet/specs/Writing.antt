@@ -12,15 +12,15 @@ use Rattle.packet.specs.declared.Written.the-variants.{Packet, Field, Sh
 use Rattle.packet.specs.Layout.{packed}
 
 -- "a field out of range, or message not 1 to 18 bytes" is where this is false
-unfoldable pub inRange : Header → ℕ → Bool
-inRange h size =
+unfoldable pub fieldsInRange : Header → ℕ → Bool
+fieldsInRange h size =
     leb (h .repeat) 3
     && (leb (h .request) 7 && (leb (h .count) 3 && (leb (h .sequence) 3 && (leb 1 size && leb size 18))))
 
 -- "the writer takes 15, then 2", for a message of size bytes and a buffer of room bytes
 unfoldable pub writtenOf : Header → ℕ → ℕ → Written
 writtenOf h size room =
-    if not (inRange h size) then Field
+    if not (fieldsInRange h size) then Field
     else if ltb room (size + 6) then Short
     else Packet (size + 6)
 

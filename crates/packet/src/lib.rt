@@ -5,9 +5,9 @@ ghost use mathlib.Core.Bool.{true};
 ghost use mathlib.Core.List.{_++_};
 ghost use lib.ListN.{length, drop};
 ghost use lib.Seq.{paste};
-ghost use Rattle.packet.specs.Layout.{wholeIn, reservedIn, headerIn, firstByte, secondByte, headed, total, balance, packed};
-ghost use Rattle.packet.specs.Reading.{readOf, numberOf, messageOf};
-ghost use Rattle.packet.specs.Writing.{inRange, Wrote};
+ghost use Rattle.packet.specs.Layout.{wholeIn, reservedIn, headerIn, firstByte, secondByte, headBytes, total, balance, packed};
+ghost use Rattle.packet.specs.Reading.{readOf, numberOfFrame, messageOf};
+ghost use Rattle.packet.specs.Writing.{fieldsInRange, Wrote};
 
 // The shortest and the longest packet, and the longest message.
 const LEAST: usize = 7;
@@ -51,7 +51,7 @@ pub enum Frame {
 
 impl Frame {
     pub fn number(self) -> u8
-        ensures { λ r. ⌜ r ≡ numberOf self ⌝ }
+        ensures { λ r. ⌜ r ≡ numberOfFrame self ⌝ }
     {
         match self {
             Frame::Read(_) => 0,
@@ -159,7 +159,7 @@ fn fields(first: u8, second: u8, network: u8, destination: u8, source: u8) -> He
 }
 
 fn ranged(header: Header, size: usize) -> bool
-    ensures { λ r. ⌜ r ≡ inRange header size ⌝ }
+    ensures { λ r. ⌜ r ≡ fieldsInRange header size ⌝ }
 {
     if TWO_BITS < header.repeat {
         return false;
@@ -181,7 +181,7 @@ fn ranged(header: Header, size: usize) -> bool
 
 // The packet at the front of the buffer.
 fn lay(header: Header, message: &[u8], out: &mut [u8])
-    requires { ⌜ (inRange header (length (now message)) ≡ true) × (length (now message) + 6 ≤ length (now out)) ⌝ }
+    requires { ⌜ (fieldsInRange header (length (now message)) ≡ true) × (length (now message) + 6 ≤ length (now out)) ⌝ }
     ensures { λ _. ⌜ now (out .exit) ≡ packed header (now (message .entry)) ++ drop (length (now (message .entry)) + 6) (now (out .entry)) ⌝ }
 {
     let size = message.len();
@@ -194,8 +194,8 @@ fn lay(header: Header, message: &[u8], out: &mut [u8])
 
 // The five bytes before the message.
 fn head(header: Header, size: usize, out: &mut [u8])
-    requires { ⌜ (inRange header size ≡ true) × (5 ≤ length (now out)) ⌝ }
-    ensures { λ _. ⌜ now (out .exit) ≡ headed header size (drop 5 (now (out .entry))) ⌝ }
+    requires { ⌜ (fieldsInRange header size ≡ true) × (5 ≤ length (now out)) ⌝ }
+    ensures { λ _. ⌜ now (out .exit) ≡ headBytes header size (drop 5 (now (out .entry))) ⌝ }
 {
     out[0] = first(header.link, header.repeat, size as u8 + AROUND);
     out[1] = second(header.request, header.count, header.sequence);

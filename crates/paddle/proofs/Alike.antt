@@ -11,9 +11,9 @@ use Rattle.paddle.specs.declared.Contact.{Contact}
 use Rattle.paddle.specs.declared.Contact.the-variants.{Local, Slave}
 use Rattle.paddle.specs.declared.Gesture.the-variants.{Nothing, Hold}
 use Rattle.paddle.specs.declared.Paddle.{Paddle}
-use Rattle.paddle.specs.Paddle.{paddle, fresh, down, moved, begun, pressed, tapped, ended, ending, goesUp, released, gestureUp}
-use Rattle.paddle.specs.Paddle.{ends, closing, completed, gesture, left, kept, next}
-use Rattle.paddle.specs.Promises.{waitFor, wait, past, ticks, skip, raised, heeded, essence, Alike, Same}
+use Rattle.paddle.specs.Paddle.{paddle, freshPaddle, down, withContact, holdFrom, pressed, tapped, ended, ending, goesUp, released, gestureUp}
+use Rattle.paddle.specs.Paddle.{ends, closing, completed, gesture, left, tapsKept, nextPaddle}
+use Rattle.paddle.specs.Promises.{waitFor, wait, past, paddleTicks, paddleSkip, raised, heeded, essence, SameEssence, Same}
 use Rattle.paddle.proofs.Laws.{either, closing-none, skip-ticks}
 
 -- Only the essence matters: the gestures, and the essence of what comes next, are those of the essence.
@@ -28,8 +28,8 @@ essence-gesture p = at (down p) (p .taps)
     at false zero = closing-none true ∙ sym (closing-none (leb (p .gap) 1))
     at false (suc taps) = rw (ne-eqb (suc taps) 0 (omega arith))
 
-essence-kept : (p : Paddle) → kept (essence p) ≡ kept p
-unfolding essence kept ends down
+essence-kept : (p : Paddle) → tapsKept (essence p) ≡ tapsKept p
+unfolding essence tapsKept ends down
 essence-kept p = at (down p) (p .taps)
   where
     at : (d : Bool) (taps : ℕ)
@@ -39,8 +39,8 @@ essence-kept p = at (down p) (p .taps)
     at false zero = sym (either 0 (leb (p .gap) 1))
     at false (suc taps) = rw (ne-eqb (suc taps) 0 (omega arith))
 
-essence-next : (p : Paddle) → essence (next (essence p)) ≡ essence (next p)
-unfolding essence next left kept down
+essence-next : (p : Paddle) → essence (nextPaddle (essence p)) ≡ essence (nextPaddle p)
+unfolding essence nextPaddle left tapsKept down
 essence-next p =
     let hold = hold-at (down p) in
     let gap = ap (λ (k : ℕ). heeded k (less (heeded (p .taps) (p .gap)))) (essence-kept p) ∙ gap-at (ends p) (p .taps) in
@@ -66,7 +66,7 @@ unfolding essence down
 essence-gap l s hold gap taps = λ i. paddle l s (if l || s then hold else 0) (gap-twice gap taps i) taps
 
 essence-pressed : (c : Contact) (p : Paddle) → essence (pressed c (essence p)) ≡ essence (pressed c p)
-unfolding essence pressed moved begun down
+unfolding essence pressed withContact holdFrom down
 essence-pressed c p = at c
   where
     hold-at : (b d : Bool) → (if b then if d then if d then p .hold else 0 else 180 else 0) ≡ (if b then if d then p .hold else 180 else 0)
@@ -92,7 +92,7 @@ essence-ended hold gap taps = at (eqb hold 0) (leb hold 120)
 essence-released : (c : Contact) (l s : Bool) (hold gap taps : ℕ)
     → (gestureUp c (essence (paddle l s hold gap taps)) ≡ gestureUp c (paddle l s hold gap taps))
     × (essence (released c (essence (paddle l s hold gap taps))) ≡ essence (released c (paddle l s hold gap taps)))
-unfolding essence released gestureUp goesUp moved down ending
+unfolding essence released gestureUp goesUp withContact down ending
 essence-released Local true true hold gap taps = (refl, essence-gap false true hold gap taps)
 essence-released Local true false hold gap taps = (refl, essence-ended hold gap taps)
 essence-released Local false true hold gap taps = (refl, essence-gap false true hold gap taps)
@@ -103,20 +103,20 @@ essence-released Slave false true hold gap taps = (refl, essence-ended hold gap 
 essence-released Slave false false hold gap taps = (refl, essence-gap false false hold gap taps)
 
 -- No event tells alike paddles apart: they give the same gestures and stay alike.
-through {ℓ} : {A : Type ℓ} (f : Paddle → A) (p q : Paddle) → f (essence p) ≡ f p → f (essence q) ≡ f q → Alike p q → f p ≡ f q
+through {ℓ} : {A : Type ℓ} (f : Paddle → A) (p q : Paddle) → f (essence p) ≡ f p → f (essence q) ≡ f q → SameEssence p q → f p ≡ f q
 through f p q a b e = sym a ∙ (ap f e ∙ b)
 
-pub alike-same : (p q : Paddle) → Alike p q → Same p q
+pub alike-same : (p q : Paddle) → SameEssence p q → Same p q
 alike-same p q e =
     let r : (c : Contact) (p : Paddle) → (gestureUp c (essence p) ≡ gestureUp c p) × (essence (released c (essence p)) ≡ essence (released c p)) =
     λ c p. essence-released c (p .local) (p .slave) (p .hold) (p .gap) (p .taps) in
     record {
       press = λ c. through (λ (x : Paddle). essence (pressed c x)) p q (essence-pressed c p) (essence-pressed c q) e;
       release = λ c. (through (gestureUp c) p q (r c p .0) (r c q .0) e, through (λ (x : Paddle). essence (released c x)) p q (r c p .1) (r c q .1) e);
-      tick = (through gesture p q (essence-gesture p) (essence-gesture q) e, through (λ (x : Paddle). essence (next x)) p q (essence-next p) (essence-next q) e);
+      tick = (through gesture p q (essence-gesture p) (essence-gesture q) e, through (λ (x : Paddle). essence (nextPaddle x)) p q (essence-next p) (essence-next q) e);
     }
 
 -- A paddle that is up with no taps is as one just started, however many ticks have passed.
-pub rested : (n hold gap : ℕ) → Alike (ticks n (raised hold gap 0)) fresh
-unfolding essence skip down wait waitFor past
+pub rested : (n hold gap : ℕ) → SameEssence (paddleTicks n (raised hold gap 0)) freshPaddle
+unfolding essence paddleSkip down wait waitFor past
 rested n hold gap = ap essence (sym (skip-ticks n (raised hold gap 0)))

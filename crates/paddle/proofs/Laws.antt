@@ -14,9 +14,9 @@ use Rattle.paddle.specs.declared.Contact.the-variants.{Local, Slave}
 use Rattle.paddle.specs.declared.Gesture.{Gesture}
 use Rattle.paddle.specs.declared.Gesture.the-variants.{Nothing, Hold, Release}
 use Rattle.paddle.specs.declared.Paddle.{Paddle}
-use Rattle.paddle.specs.Paddle.{holdTicks, paddle, down, moved, begun, pressed, counted, tapped, ended, ending, goesUp, released, gestureUp}
-use Rattle.paddle.specs.Paddle.{ends, closing, completed, gesture, left, kept, next}
-use Rattle.paddle.specs.Promises.{Wait, never, after, waitFor, wait, due, past, gestureAfter, ticks, skip, Once, pressFor, gestureFor, raised, CaseF, CaseG, touched}
+use Rattle.paddle.specs.Paddle.{holdTicks, paddle, down, withContact, holdFrom, pressed, oneTapMore, tapped, ended, ending, goesUp, released, gestureUp}
+use Rattle.paddle.specs.Paddle.{ends, closing, completed, gesture, left, tapsKept, nextPaddle}
+use Rattle.paddle.specs.Promises.{Wait, never, after, waitFor, wait, due, past, gestureAfter, paddleTicks, paddleSkip, Once, pressFor, gestureFor, raised, CaseF, CaseG, touched}
 
 -- Both ways the same.
 pub either : {A : Type 0} (x : A) (b : Bool) → (if b then x else x) ≡ x
@@ -57,8 +57,8 @@ unfolding past
 unpassed never taps = refl
 unpassed (after k) taps = rw (le-ltb k 0 (omega arith))
 
-pub skip-none : (p : Paddle) → skip 0 p ≡ p
-unfolding skip
+pub skip-none : (p : Paddle) → paddleSkip 0 p ≡ p
+unfolding paddleSkip
 skip-none p =
     let hold = cases (λ (x : ℕ). x ≡ p .hold) (down p) (λ e. less-none (p .hold)) (λ e. refl) in
     let taps = unpassed (wait p) (p .taps) in
@@ -103,29 +103,29 @@ gesture-more false n hold gap taps =
     (λ (h : taps ≤ 0). let z : taps ≡ 0 = omega arith in simp z (closing-none (leb (gap - n) 1)))
 
 -- The closed form goes on as a tick does.
-pub skip-more : (n : ℕ) (p : Paddle) → next (skip n p) ≡ skip (suc n) p
-unfolding skip next left kept ends down wait
+pub skip-more : (n : ℕ) (p : Paddle) → nextPaddle (paddleSkip n p) ≡ paddleSkip (suc n) p
+unfolding paddleSkip nextPaddle left tapsKept ends down wait
 skip-more n p =
     let hold = hold-more (down p) n (p .hold) in
     let taps = taps-more (down p) n (p .hold) (p .gap) (p .taps) in
     λ i. paddle (p .local) (p .slave) (hold i) (less-more n (p .gap) i) (taps i)
 
 -- So it is n single ticks.
-pub skip-ticks : (n : ℕ) (p : Paddle) → skip n p ≡ ticks n p
-unfolding ticks
+pub skip-ticks : (n : ℕ) (p : Paddle) → paddleSkip n p ≡ paddleTicks n p
+unfolding paddleTicks
 skip-ticks zero p = skip-none p
-skip-ticks (suc n) p = sym (skip-more n p) ∙ ap next (skip-ticks n p)
+skip-ticks (suc n) p = sym (skip-more n p) ∙ ap nextPaddle (skip-ticks n p)
 
 -- The exact wait: the tick after n ticks completes a gesture where n is the wait, and nothing elsewhere.
-pub gesture-after : (n : ℕ) (p : Paddle) → gesture (skip n p) ≡ gestureAfter n p
-unfolding skip gesture gestureAfter completed ends down wait
+pub gesture-after : (n : ℕ) (p : Paddle) → gesture (paddleSkip n p) ≡ gestureAfter n p
+unfolding paddleSkip gesture gestureAfter completed ends down wait
 gesture-after n p = gesture-more (down p) n (p .hold) (p .gap) (p .taps)
 
-pub gesture-ticks : (n : ℕ) (p : Paddle) → gesture (ticks n p) ≡ gestureAfter n p
+pub gesture-ticks : (n : ℕ) (p : Paddle) → gesture (paddleTicks n p) ≡ gestureAfter n p
 gesture-ticks n p = ap gesture (sym (skip-ticks n p)) ∙ gesture-after n p
 
 -- Where n is not the wait, nothing is completed.
-pub quiet : (n : ℕ) (p : Paddle) → due n (wait p) ≡ false → gesture (ticks n p) ≡ Nothing
+pub quiet : (n : ℕ) (p : Paddle) → due n (wait p) ≡ false → gesture (paddleTicks n p) ≡ Nothing
 unfolding gestureAfter
 quiet n p e = gesture-ticks n p ∙ simp e
 
@@ -135,7 +135,7 @@ unfolding due
 due-once m n never e f = let z : _≡_ {A = ℕ} 0 1 = cc in omega arith
 due-once m n (after k) e f = omega (arith, eqb-true k m e, eqb-true k n f)
 
-owed : (n : ℕ) (p : Paddle) (d : Bool) → due n (wait p) ≡ d → (gesture (ticks n p) ≡ Nothing → ⊥) → due n (wait p) ≡ true
+owed : (n : ℕ) (p : Paddle) (d : Bool) → due n (wait p) ≡ d → (gesture (paddleTicks n p) ≡ Nothing → ⊥) → due n (wait p) ≡ true
 owed n p true e some = e
 owed n p false e some = absurd (some (quiet n p e))
 
@@ -144,16 +144,16 @@ once p m n some other =
     due-once m n (wait p) (owed m p (due m (wait p)) refl some) (owed n p (due n (wait p)) refl other)
 
 -- Ticks leave the contacts alone.
-pub tick-contacts : (p : Paddle) → (next p .local ≡ p .local) × (next p .slave ≡ p .slave)
-unfolding next
+pub tick-contacts : (p : Paddle) → (nextPaddle p .local ≡ p .local) × (nextPaddle p .slave ≡ p .slave)
+unfolding nextPaddle
 tick-contacts p = (refl, refl)
 
-pub skip-contacts : (n : ℕ) (p : Paddle) → (skip n p .local ≡ p .local) × (skip n p .slave ≡ p .slave)
-unfolding skip
+pub skip-contacts : (n : ℕ) (p : Paddle) → (paddleSkip n p .local ≡ p .local) × (paddleSkip n p .slave ≡ p .slave)
+unfolding paddleSkip
 skip-contacts n p = (refl, refl)
 
 -- An edge moves its own contact and no other.
-pub pressed-contacts : (c : Contact) (p : Paddle) → (pressed c p .local ≡ moved c true p .local) × (pressed c p .slave ≡ moved c true p .slave)
+pub pressed-contacts : (c : Contact) (p : Paddle) → (pressed c p .local ≡ withContact c true p .local) × (pressed c p .slave ≡ withContact c true p .slave)
 unfolding pressed
 pressed-contacts c p = (refl, refl)
 
@@ -163,19 +163,19 @@ ended-contacts p =
     let Kept : Paddle → Type 0 = λ q. (q .local ≡ p .local) × (q .slave ≡ p .slave) in
     both Kept (eqb (p .hold) 0) (refl, refl) (both Kept (leb (p .hold) 120) (refl, refl) (refl, refl))
 
-pub released-contacts : (c : Contact) (p : Paddle) → (released c p .local ≡ moved c false p .local) × (released c p .slave ≡ moved c false p .slave)
+pub released-contacts : (c : Contact) (p : Paddle) → (released c p .local ≡ withContact c false p .local) × (released c p .slave ≡ withContact c false p .slave)
 unfolding released
 released-contacts c p =
-    both (λ (q : Paddle). (q .local ≡ moved c false p .local) × (q .slave ≡ moved c false p .slave)) (goesUp c p) (ended-contacts (moved c false p)) (refl, refl)
+    both (λ (q : Paddle). (q .local ≡ withContact c false p .local) × (q .slave ≡ withContact c false p .slave)) (goesUp c p) (ended-contacts (withContact c false p)) (refl, refl)
 
 -- "An edge that finds its contact already so is 0 and alters nothing."
-as-it-is : (c : Contact) (p : Paddle) → moved c (touched c p) p ≡ p
-unfolding moved touched
+as-it-is : (c : Contact) (p : Paddle) → withContact c (touched c p) p ≡ p
+unfolding withContact touched
 as-it-is Local p = refl
 as-it-is Slave p = refl
 
-stays : (c : Contact) (p : Paddle) (b : Bool) → touched c p ≡ b → moved c b p ≡ p
-stays c p b e = ap (λ (t : Bool). moved c t p) (sym e) ∙ as-it-is c p
+stays : (c : Contact) (p : Paddle) (b : Bool) → touched c p ≡ b → withContact c b p ≡ p
+stays c p b e = ap (λ (t : Bool). withContact c t p) (sym e) ∙ as-it-is c p
 
 -- A paddle is down while one of its contacts is.
 pub touched-down : (c : Contact) (p : Paddle) → touched c p ≡ true → down p ≡ true
@@ -184,7 +184,7 @@ touched-down Local p e = ap (λ (b : Bool). b || p .slave) e
 touched-down Slave p e = ap (λ (b : Bool). p .local || b) e ∙ or-true (p .local)
 
 pub pressed-again : (c : Contact) (p : Paddle) → touched c p ≡ true → pressed c p ≡ p
-unfolding pressed begun
+unfolding pressed holdFrom
 pressed-again c p e = simp (stays c p true e, touched-down c p e)
 
 pub released-again : (c : Contact) (p : Paddle) → touched c p ≡ false → (released c p ≡ p) × (gestureUp c p ≡ Nothing)
@@ -192,13 +192,13 @@ unfolding released gestureUp goesUp
 released-again c p e = simp (stays c p false e, and-not-self (down p)) (refl, refl)
 
 -- A press that overlaps another of the same paddle moves nothing but its contact; so does a release that leaves the paddle down.
-pub pressed-over : (c : Contact) (p : Paddle) → down p ≡ true → pressed c p ≡ moved c true p
-unfolding pressed begun moved
+pub pressed-over : (c : Contact) (p : Paddle) → down p ≡ true → pressed c p ≡ withContact c true p
+unfolding pressed holdFrom withContact
 pressed-over Local p e = simp e
 pressed-over Slave p e = simp e
 
-pub released-under : (c : Contact) (p : Paddle) → down (moved c false p) ≡ true
-    → (released c p ≡ moved c false p) × (gestureUp c p ≡ Nothing)
+pub released-under : (c : Contact) (p : Paddle) → down (withContact c false p) ≡ true
+    → (released c p ≡ withContact c false p) × (gestureUp c p ≡ Nothing)
 unfolding released gestureUp goesUp
 released-under c p e = simp (e, and-false (down p)) (refl, refl)
 
@@ -212,15 +212,15 @@ abbrev still : ℕ → ℕ → ℕ
 still n taps = if ltb 179 n then 0 else taps
 
 held : (n : ℕ) (c : Contact) (hold gap taps : ℕ)
-    → skip n (pressed c (raised hold gap taps)) ≡ moved c true (raised (lessBy n holdTicks) (lessBy n gap) (still n taps))
-unfolding skip pressed moved begun down wait waitFor past less
+    → paddleSkip n (pressed c (raised hold gap taps)) ≡ withContact c true (raised (lessBy n holdTicks) (lessBy n gap) (still n taps))
+unfolding paddleSkip pressed withContact holdFrom down wait waitFor past less
 held n Local hold gap taps = refl
 held n Slave hold gap taps = refl
 
 let-go : (c : Contact) (hold gap taps : ℕ)
-    → (released c (moved c true (raised hold gap taps)) ≡ ended (raised hold gap taps))
-    × (gestureUp c (moved c true (raised hold gap taps)) ≡ ending (raised hold gap taps))
-unfolding released gestureUp goesUp moved down
+    → (released c (withContact c true (raised hold gap taps)) ≡ ended (raised hold gap taps))
+    × (gestureUp c (withContact c true (raised hold gap taps)) ≡ ending (raised hold gap taps))
+unfolding released gestureUp goesUp withContact down
 let-go Local hold gap taps = (refl, refl)
 let-go Slave hold gap taps = (refl, refl)
 
@@ -242,7 +242,7 @@ too-short n c hold gap taps h =
 
 -- "60 to 179, a tap": it is counted, and restarts the gap.
 pub a-tap : (n : ℕ) (c : Contact) (hold gap taps : ℕ) → 60 ≤ n → n < 180
-    → (pressFor n c (raised hold gap taps) ≡ raised (180 - n) 180 (counted taps)) × (gestureFor n c (raised hold gap taps) ≡ Nothing)
+    → (pressFor n c (raised hold gap taps) ≡ raised (180 - n) 180 (oneTapMore taps)) × (gestureFor n c (raised hold gap taps) ≡ Nothing)
 unfolding ended ending tapped lessBy
 a-tap n c hold gap taps h k =
     let e = let-go-after n c hold gap taps in
@@ -259,14 +259,14 @@ a-hold n c hold gap taps h =
 
 -- Hold comes in the 180th tick of the press and in no other.
 pub hold-comes : (n : ℕ) (c : Contact) (hold gap taps : ℕ)
-    → gesture (ticks n (pressed c (raised hold gap taps))) ≡ (if eqb 179 n then Hold else Nothing)
-unfolding gestureAfter due wait waitFor completed pressed moved begun down less
+    → gesture (paddleTicks n (pressed c (raised hold gap taps))) ≡ (if eqb 179 n then Hold else Nothing)
+unfolding gestureAfter due wait waitFor completed pressed withContact holdFrom down less
 hold-comes n Local hold gap taps = gesture-ticks n (pressed Local (raised hold gap taps))
 hold-comes n Slave hold gap taps = gesture-ticks n (pressed Slave (raised hold gap taps))
 
 -- A run stays open until its closing tick: with the paddle up, ticks before it take nothing but the gap.
-pub run-open : (n hold gap taps : ℕ) → n < max 1 gap → ticks n (raised hold gap taps) ≡ raised hold (gap - n) taps
-unfolding skip down wait waitFor past less lessBy
+pub run-open : (n hold gap taps : ℕ) → n < max 1 gap → paddleTicks n (raised hold gap taps) ≡ raised hold (gap - n) taps
+unfolding paddleSkip down wait waitFor past less lessBy
 run-open n hold gap taps h =
     sym (skip-ticks n (raised hold gap taps)) ∙
     two-ways 0 taps
@@ -275,12 +275,12 @@ run-open n hold gap taps h =
 
 -- "A press at gap 179 joins the run": so does every press, long enough, before the closing tick.
 pub joins : (n m : ℕ) (c : Contact) (hold gap taps : ℕ) → n < max 1 gap → 60 ≤ m → m < 180
-    → pressFor m c (ticks n (raised hold gap taps)) ≡ raised (180 - m) 180 (counted taps)
+    → pressFor m c (paddleTicks n (raised hold gap taps)) ≡ raised (180 - m) 180 (oneTapMore taps)
 joins n m c hold gap taps before long short =
     ap (pressFor m c) (run-open n hold gap taps before) ∙ a-tap m c hold (gap - n) taps long short .0
 
 -- The closing tick gives the taps.
-pub closes : (hold gap taps : ℕ) → gesture (ticks (gap - 1) (raised hold gap taps)) ≡ closing taps
+pub closes : (hold gap taps : ℕ) → gesture (paddleTicks (gap - 1) (raised hold gap taps)) ≡ closing taps
 unfolding gestureAfter due wait waitFor completed down less closing
 closes hold gap taps =
     gesture-ticks (gap - 1) (raised hold gap taps) ∙
@@ -289,20 +289,20 @@ closes hold gap taps =
     (λ (none : taps ≤ 0). simp (eq-eqb taps 0 (omega arith)))
 
 -- "The tap count stops at 11": the tap after the kth of a run.
-pub counts : (k : ℕ) → counted (min k 11) ≡ min (suc k) 11
-unfolding counted
+pub counts : (k : ℕ) → oneTapMore (min k 11) ≡ min (suc k) 11
+unfolding oneTapMore
 counts k =
     two-ways k 11
     (λ (h : k < 11). let e : min k 11 ≡ k = omega arith in simp (e, lt-ltb k 11 h) (omega arith))
     (λ (h : 11 ≤ k). let e : min k 11 ≡ 11 = omega arith in simp e (omega arith))
 
-pub counted-within : (taps : ℕ) → taps ≤ 11 → counted taps ≤ 11
-unfolding counted
+pub counted-within : (taps : ℕ) → taps ≤ 11 → oneTapMore taps ≤ 11
+unfolding oneTapMore
 counted-within taps h = cases (λ (x : ℕ). x ≤ 11) (ltb taps 11) (λ e. omega (arith, ltb-true taps 11 e)) (λ e. h)
 
 -- Cases (f) and (g) of document 01.
 pub case-f : (c : Contact) → CaseF c
-unfolding counted
+unfolding oneTapMore
 case-f c = record {
   nothing = let e = too-short 59 c 0 0 0 (omega arith) in (ap (λ (p : Paddle). p .taps) (e .0), e .1);
   shortest = let e = a-tap 60 c 0 0 0 (omega arith) (omega arith) in (ap (λ (p : Paddle). p .taps) (e .0), e .1);
@@ -311,6 +311,6 @@ case-f c = record {
 }
 
 pub case-g : (c : Contact) → CaseG c
-unfolding counted
-case-g c = ap (λ (p : Paddle). pressFor 60 c (ticks 179 p) .taps) (a-tap 60 c 0 0 0 (omega arith) (omega arith) .0)
+unfolding oneTapMore
+case-g c = ap (λ (p : Paddle). pressFor 60 c (paddleTicks 179 p) .taps) (a-tap 60 c 0 0 0 (omega arith) (omega arith) .0)
     ∙ ap (λ (p : Paddle). p .taps) (joins 179 60 c 120 180 1 (omega arith) (omega arith) (omega arith))

@@ -33,36 +33,36 @@ abbrev pub turn : Paddle → Gesture → Turn
 turn p g = record { paddle = p; gesture = g }
 
 -- "Start and restart: .. contacts up, timers clear."
-abbrev pub fresh : Paddle
-fresh = paddle false false 0 0 0
+abbrev pub freshPaddle : Paddle
+freshPaddle = paddle false false 0 0 0
 
 -- "A paddle is down while its local or slave contact is down."
 unfoldable pub down : Paddle → Bool
 down p = p .local || p .slave
 
 -- The paddle with one contact pressed (true) or let go (false).
-unfoldable pub moved : Contact → Bool → Paddle → Paddle
-moved Local to p = paddle to (p .slave) (p .hold) (p .gap) (p .taps)
-moved Slave to p = paddle (p .local) to (p .hold) (p .gap) (p .taps)
+unfoldable pub withContact : Contact → Bool → Paddle → Paddle
+withContact Local to p = paddle to (p .slave) (p .hold) (p .gap) (p .taps)
+withContact Slave to p = paddle (p .local) to (p .hold) (p .gap) (p .taps)
 
 -- "With ticks counted from the press": the ticks left before Hold, anew where the press finds the paddle up.
-unfoldable pub begun : Paddle → ℕ
-begun p = if down p then p .hold else holdTicks
+unfoldable pub holdFrom : Paddle → ℕ
+holdFrom p = if down p then p .hold else holdTicks
 
 abbrev withHold : ℕ → Paddle → Paddle
 withHold hold p = paddle (p .local) (p .slave) hold (p .gap) (p .taps)
 
 -- A press edge.
 unfoldable pub pressed : Contact → Paddle → Paddle
-pressed contact p = withHold (begun p) (moved contact true p)
+pressed contact p = withHold (holdFrom p) (withContact contact true p)
 
 -- "The tap count stops at 11."
-unfoldable pub counted : ℕ → ℕ
-counted taps = if ltb taps mostTaps then taps + 1 else taps
+unfoldable pub oneTapMore : ℕ → ℕ
+oneTapMore taps = if ltb taps mostTaps then taps + 1 else taps
 
 -- "A counted tap restarts the gap."
 unfoldable pub tapped : Paddle → Paddle
-tapped p = paddle (p .local) (p .slave) (p .hold) gapTicks (counted (p .taps))
+tapped p = paddle (p .local) (p .slave) (p .hold) gapTicks (oneTapMore (p .taps))
 
 -- "released before 60, nothing; 60 to 179, a tap; at 180, Hold, .. and Release when let go": the paddle let go, and the gesture.
 unfoldable pub ended : Paddle → Paddle
@@ -73,14 +73,14 @@ ending p = if eqb (p .hold) 0 then Release else Nothing
 
 -- The release edge that lets the paddle go: it was down, and no contact holds it down any more.
 unfoldable pub goesUp : Contact → Paddle → Bool
-goesUp contact p = down p && not (down (moved contact false p))
+goesUp contact p = down p && not (down (withContact contact false p))
 
 -- A release edge: the paddle after it, and the gesture.
 unfoldable pub released : Contact → Paddle → Paddle
-released contact p = if goesUp contact p then ended (moved contact false p) else moved contact false p
+released contact p = if goesUp contact p then ended (withContact contact false p) else withContact contact false p
 
 unfoldable pub gestureUp : Contact → Paddle → Gesture
-gestureUp contact p = if goesUp contact p then ending (moved contact false p) else Nothing
+gestureUp contact p = if goesUp contact p then ending (withContact contact false p) else Nothing
 
 -- "at 180, Hold, which drops earlier taps"; "The run closes at the first tick with the paddle up and gap 180 or more."
 unfoldable pub ends : Paddle → Bool
@@ -98,18 +98,18 @@ unfoldable pub gesture : Paddle → Gesture
 gesture p = if ends p then completed p else Nothing
 
 -- Whether nothing is completed.
-unfoldable pub none : Gesture → Bool
-none Nothing = true
-none (Taps n) = false
-none Hold = false
-none Release = false
+unfoldable pub completesNothing : Gesture → Bool
+completesNothing Nothing = true
+completesNothing (Taps n) = false
+completesNothing Hold = false
+completesNothing Release = false
 
 unfoldable pub left : Paddle → ℕ
 left p = if down p then less (p .hold) else p .hold
 
-unfoldable pub kept : Paddle → ℕ
-kept p = if ends p then 0 else p .taps
+unfoldable pub tapsKept : Paddle → ℕ
+tapsKept p = if ends p then 0 else p .taps
 
 -- "the gap, which runs while up and down"
-unfoldable pub next : Paddle → Paddle
-next p = paddle (p .local) (p .slave) (left p) (less (p .gap)) (kept p)
+unfoldable pub nextPaddle : Paddle → Paddle
+nextPaddle p = paddle (p .local) (p .slave) (left p) (less (p .gap)) (tapsKept p)

@@ -10,7 +10,7 @@ use Rattle.paddle.specs.declared.Contact.the-variants.{Local, Slave}
 use Rattle.paddle.specs.declared.Gesture.{Gesture}
 use Rattle.paddle.specs.declared.Gesture.the-variants.{Nothing, Hold, Release}
 use Rattle.paddle.specs.declared.Paddle.{Paddle}
-use Rattle.paddle.specs.Paddle.{paddle, fresh, down, pressed, released, gestureUp, completed, gesture, next}
+use Rattle.paddle.specs.Paddle.{paddle, freshPaddle, down, pressed, released, gestureUp, completed, gesture, nextPaddle}
 
 -- After how many ticks that complete nothing the tick comes that completes a gesture, if no edge comes first.
 pub data Wait : Type 0 where
@@ -38,34 +38,34 @@ unfoldable pub gestureAfter : ℕ → Paddle → Gesture
 gestureAfter n p = if due n (wait p) then completed p else Nothing
 
 -- n ticks one by one, and in closed form: the gesture takes the taps with it.
-unfoldable pub ticks : ℕ → Paddle → Paddle
-ticks zero p = p
-ticks (suc n) p = next (ticks n p)
+unfoldable pub paddleTicks : ℕ → Paddle → Paddle
+paddleTicks zero p = p
+paddleTicks (suc n) p = nextPaddle (paddleTicks n p)
 
-unfoldable pub skip : ℕ → Paddle → Paddle
-skip n p = paddle (p .local) (p .slave) (if down p then lessBy n (p .hold) else p .hold) (lessBy n (p .gap)) (if past n (wait p) then 0 else p .taps)
+unfoldable pub paddleSkip : ℕ → Paddle → Paddle
+paddleSkip n p = paddle (p .local) (p .slave) (if down p then lessBy n (p .hold) else p .hold) (lessBy n (p .gap)) (if past n (wait p) then 0 else p .taps)
 
 -- Between two edges a paddle completes at most one gesture.
 abbrev pub Once : Paddle → Type 0
-Once p = (m n : ℕ) → (gesture (ticks m p) ≡ Nothing → ⊥) → (gesture (ticks n p) ≡ Nothing → ⊥) → m ≡ n
+Once p = (m n : ℕ) → (gesture (paddleTicks m p) ≡ Nothing → ⊥) → (gesture (paddleTicks n p) ≡ Nothing → ⊥) → m ≡ n
 
 -- A press of n ticks: the paddle let go, and the gesture then.
 abbrev pub pressFor : ℕ → Contact → Paddle → Paddle
-pressFor n contact p = released contact (ticks n (pressed contact p))
+pressFor n contact p = released contact (paddleTicks n (pressed contact p))
 
 abbrev pub gestureFor : ℕ → Contact → Paddle → Gesture
-gestureFor n contact p = gestureUp contact (ticks n (pressed contact p))
+gestureFor n contact p = gestureUp contact (paddleTicks n (pressed contact p))
 
 -- "(f) Presses of 59, 60, 179, 180 ticks: nothing, tap, tap, Hold", of a paddle just started.
 pub record CaseF (contact : Contact) : Type 0 where
-  pub nothing : (pressFor 59 contact fresh .taps ≡ 0) × (gestureFor 59 contact fresh ≡ Nothing)
-  pub shortest : (pressFor 60 contact fresh .taps ≡ 1) × (gestureFor 60 contact fresh ≡ Nothing)
-  pub longest : (pressFor 179 contact fresh .taps ≡ 1) × (gestureFor 179 contact fresh ≡ Nothing)
-  pub hold : (gesture (ticks 179 (pressed contact fresh)) ≡ Hold) × (gestureFor 180 contact fresh ≡ Release)
+  pub nothing : (pressFor 59 contact freshPaddle .taps ≡ 0) × (gestureFor 59 contact freshPaddle ≡ Nothing)
+  pub shortest : (pressFor 60 contact freshPaddle .taps ≡ 1) × (gestureFor 60 contact freshPaddle ≡ Nothing)
+  pub longest : (pressFor 179 contact freshPaddle .taps ≡ 1) × (gestureFor 179 contact freshPaddle ≡ Nothing)
+  pub hold : (gesture (paddleTicks 179 (pressed contact freshPaddle)) ≡ Hold) × (gestureFor 180 contact freshPaddle ≡ Release)
 
 -- "(g) A press at gap 179 joins the run": two taps, the second pressed 179 ticks after the first was counted.
 abbrev pub CaseG : Contact → Type 0
-CaseG contact = pressFor 60 contact (ticks 179 (pressFor 60 contact fresh)) .taps ≡ 2
+CaseG contact = pressFor 60 contact (paddleTicks 179 (pressFor 60 contact freshPaddle)) .taps ≡ 2
 
 -- A paddle that is up.
 abbrev pub raised : ℕ → ℕ → ℕ → Paddle
@@ -78,14 +78,14 @@ heeded taps gap = if eqb taps 0 then 0 else gap
 unfoldable pub essence : Paddle → Paddle
 essence p = paddle (p .local) (p .slave) (if down p then p .hold else 0) (heeded (p .taps) (p .gap)) (p .taps)
 
-abbrev pub Alike : Paddle → Paddle → Type 0
-Alike p q = essence p ≡ essence q
+abbrev pub SameEssence : Paddle → Paddle → Type 0
+SameEssence p q = essence p ≡ essence q
 
 -- Two paddles of which no event can tell which is which.
 pub record Same (p q : Paddle) : Type 0 where
-  pub press : (contact : Contact) → Alike (pressed contact p) (pressed contact q)
-  pub release : (contact : Contact) → (gestureUp contact p ≡ gestureUp contact q) × Alike (released contact p) (released contact q)
-  pub tick : (gesture p ≡ gesture q) × Alike (next p) (next q)
+  pub press : (contact : Contact) → SameEssence (pressed contact p) (pressed contact q)
+  pub release : (contact : Contact) → (gestureUp contact p ≡ gestureUp contact q) × SameEssence (released contact p) (released contact q)
+  pub tick : (gesture p ≡ gesture q) × SameEssence (nextPaddle p) (nextPaddle q)
 
 -- Whether a contact is down.
 unfoldable pub touched : Contact → Paddle → Bool

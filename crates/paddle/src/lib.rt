@@ -1,7 +1,7 @@
 // One paddle: edges and ticks in, gestures out. Nothing here knows which paddle of the switch it is.
 ghost use mathlib.Core.Path.{_≡_};
-ghost use Rattle.paddle.specs.Paddle.{fresh, down, pressed, released, gestureUp, next, gesture, none, turn};
-ghost use Rattle.paddle.specs.Paddle.{moved, begun, ended, ending, tapped, counted, ends, completed, closing, left, kept};
+ghost use Rattle.paddle.specs.Paddle.{freshPaddle, down, pressed, released, gestureUp, nextPaddle, gesture, completesNothing, turn};
+ghost use Rattle.paddle.specs.Paddle.{withContact, holdFrom, ended, ending, tapped, oneTapMore, ends, completed, closing, left, tapsKept};
 
 // Ticks from the press to Hold.
 const HOLD: u16 = 180;
@@ -42,7 +42,7 @@ pub struct Turn {
 
 impl Gesture {
     pub fn none(self) -> bool
-        ensures { λ r. ⌜ r ≡ none self ⌝ }
+        ensures { λ r. ⌜ r ≡ completesNothing self ⌝ }
     {
         match self {
             Gesture::Nothing => true,
@@ -56,7 +56,7 @@ impl Gesture {
 impl Paddle {
     // As after a start or a restart.
     pub fn up() -> Paddle
-        ensures { λ r. ⌜ r ≡ fresh ⌝ }
+        ensures { λ r. ⌜ r ≡ freshPaddle ⌝ }
     {
         Paddle {
             local: false,
@@ -97,7 +97,7 @@ impl Paddle {
     }
 
     pub fn tick(self) -> Turn
-        ensures { λ r. ⌜ r ≡ turn (next self) (gesture self) ⌝ }
+        ensures { λ r. ⌜ r ≡ turn (nextPaddle self) (gesture self) ⌝ }
     {
         Turn {
             paddle: self.next(),
@@ -106,7 +106,7 @@ impl Paddle {
     }
 
     fn moved(mut self, contact: Contact, down: bool) -> Paddle
-        ensures { λ r. ⌜ r ≡ moved contact down self ⌝ }
+        ensures { λ r. ⌜ r ≡ withContact contact down self ⌝ }
     {
         match contact {
             Contact::Local => {
@@ -122,7 +122,7 @@ impl Paddle {
 
     // The ticks left before Hold once a contact is pressed.
     fn begun(self) -> u16
-        ensures { λ r. ⌜ r ≡ begun self ⌝ }
+        ensures { λ r. ⌜ r ≡ holdFrom self ⌝ }
     {
         if self.down() {
             return self.hold;
@@ -190,7 +190,7 @@ impl Paddle {
     }
 
     fn next(self) -> Paddle
-        ensures { λ r. ⌜ r ≡ next self ⌝ }
+        ensures { λ r. ⌜ r ≡ nextPaddle self ⌝ }
     {
         Paddle {
             local: self.local,
@@ -212,7 +212,7 @@ impl Paddle {
     }
 
     fn kept(self) -> u8
-        ensures { λ r. ⌜ r ≡ kept self ⌝ }
+        ensures { λ r. ⌜ r ≡ tapsKept self ⌝ }
     {
         if self.ends() {
             return 0;
@@ -222,7 +222,7 @@ impl Paddle {
 }
 
 fn counted(taps: u8) -> u8
-    ensures { λ r. ⌜ r ≡ counted taps ⌝ }
+    ensures { λ r. ⌜ r ≡ oneTapMore taps ⌝ }
 {
     if taps < MOST {
         return taps + 1;

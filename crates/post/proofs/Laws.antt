@@ -24,7 +24,7 @@ use Rattle.post.specs.declared.Note.{Note}
 use Rattle.post.specs.declared.Reply.{Reply}
 use Rattle.post.specs.declared.Reply.the-variants.{Silence, Status, Registers}
 use Rattle.post.specs.Post.{header, headed, enveloped, bytesOf, gestureMessage, announced, note, noNote, noteOf, noteHeader, sentOf, valuesFrom, replyMessage, replied, front, laidLength, placedOne, Laid, place, placedAt, placed}
-use Rattle.post.specs.Promises.{NoteSent, OneOutcome, InOrder}
+use Rattle.post.specs.Promises.{NoteSent, LaysOneWay, NotesInOrder}
 use Rattle.registers.proofs.Laws.{range-length}
 
 -- The header of every packet sent is in the writer's ranges.
@@ -81,7 +81,7 @@ pub laid-keeps : (sent : List (List ℕ)) (before after : List ℕ) (n : ℕ) �
 laid-keeps sent before after n l = ap length (l .bytes) ∙ placed-length (front sent) before
 
 -- No two outcomes: the promise fixes the answer and every byte of the place.
-pub one-laid : OneOutcome
+pub one-laid : LaysOneWay
 one-laid sent before after after′ n n′ x y = (one-outcome n n′ (x .answered) (y .answered), one-outcome after after′ (x .bytes) (y .bytes))
 
 -- The packet of a message of at most 18 bytes fits into a place.
@@ -183,7 +183,7 @@ in-turn h h′ (b ∷ bs) m′ before room =
     let sent : eqb (length p) 0 ≡ false = ne-eqb (length p) 0 (omega (arith, packed-length h (b ∷ bs))) in
     rw (sent, second-place p q before room, first-place h′ m′ (drop place before))
 
-pub in-order : InOrder
+pub in-order : NotesInOrder
 unfolding sentOf
 in-order first second before room =
     in-turn (noteHeader first) (noteHeader second) (bytesOf (first .message)) (bytesOf (second .message)) before (omega arith)

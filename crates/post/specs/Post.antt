@@ -48,8 +48,8 @@ enveloped h [] = []
 enveloped h (byte ∷ bytes) = packed h (byte ∷ bytes) ∷ []
 
 -- "15 none; 14 the message 0x86 with the percent"
-abbrev pub none : ℕ
-none = 15
+abbrev pub noCommand : ℕ
+noCommand = 15
 
 abbrev pub report : ℕ
 report = 14
@@ -64,16 +64,16 @@ bytesOf (Three command first second) = command ∷ first ∷ second ∷ []
 -- "each single, double, Hold and Release": the command number that the paddle's transmit component has for the gesture. The number
 -- of a double is handed in.
 unfoldable pub gestureNumber : Transmit → ℕ → Gesture → ℕ
-gestureNumber t double Nothing = none
-gestureNumber t double (Taps taps) = if eqb taps 1 then t .single else if eqb taps 2 then double else none
+gestureNumber t double Nothing = noCommand
+gestureNumber t double (Taps taps) = if eqb taps 1 then t .single else if eqb taps 2 then double else noCommand
 gestureNumber t double Hold = t .hold
 gestureNumber t double Release = t .release
 
 -- ".. outside Setup, but no double in Factory Default"
 unfoldable pub commandNumber : Mode → Transmit → Gesture → ℕ
 commandNumber Normal t g = gestureNumber t (t .double) g
-commandNumber Setup t g = none
-commandNumber Factory t g = gestureNumber t none g
+commandNumber Setup t g = noCommand
+commandNumber Factory t g = gestureNumber t noCommand g
 
 -- ".. the first argument of 0x22 and 0x23, where 255 is a level."
 unfoldable pub takesLevel : ℕ → Bool
@@ -95,7 +95,7 @@ status percent = Two 0x86 (percent .0)
 -- "Low four bits of the command number: 15 none; 14 the message 0x86 with the percent; otherwise the table entry."
 unfoldable pub chosen : List ℕ → ℕ → Percent → Message
 chosen all number percent =
-    if eqb (number % 16) none then Empty
+    if eqb (number % 16) noCommand then Empty
     else if eqb (number % 16) report then status percent
     else trimmed (entryIn all (number % 16))
 

@@ -81,14 +81,14 @@ pub record Hides : Type 0 where
       → (mode : Mode) (paddle : ℕ) (g : Gesture) (p : Percent) → announced a mode paddle g p ≡ announced b mode paddle g p
 
 -- No two outcomes of `lay` and `send`: the promise fixes the answer and every byte of the place.
-abbrev pub OneOutcome : Type 0
-OneOutcome =
+abbrev pub LaysOneWay : Type 0
+LaysOneWay =
     (sent : List (List ℕ)) (before after after′ : List ℕ) (n n′ : ℕ)
     → Laid sent before n after → Laid sent before n′ after′ → (n ≡ n′) × (after ≡ after′)
 
 -- Two notes laid one after the other, the second into the first place that is free, fill the places in order.
-abbrev pub InOrder : Type 0
-InOrder =
+abbrev pub NotesInOrder : Type 0
+NotesInOrder =
     (first second : Note) (before : List ℕ) → place + place ≤ length before
     → placedAt (if eqb (length (front (sentOf first))) 0 then 0 else place) (front (sentOf second)) (placedAt 0 (front (sentOf first)) before)
     ≡ placed (sentOf first ++ sentOf second) before

@@ -25,7 +25,7 @@ use Rattle.packet.specs.declared.Frame.{Frame}
 use Rattle.packet.specs.declared.Frame.the-variants as frame
 use Rattle.packet.specs.declared.Header.{Header}
 use Rattle.packet.proofs.Laws as packet
-use Rattle.paddle.specs.Paddle.{ending, fresh, gesture, gestureUp, goesUp, moved, next}
+use Rattle.paddle.specs.Paddle.{ending, freshPaddle, gesture, gestureUp, goesUp, withContact, nextPaddle}
 use Rattle.paddle.specs.declared.Contact.{Contact}
 use Rattle.paddle.specs.declared.Gesture.{Gesture}
 use Rattle.paddle.specs.declared.Gesture.the-variants as gestures
@@ -45,7 +45,7 @@ use Rattle.judge.specs.declared.Order.{Order}
 use Rattle.judge.specs.declared.Order.the-variants as order
 use Rattle.judge.proofs.Laws.{asks}
 use Rattle.acts.specs.Core.{aged, entering, opened, saved, setting, stopping, toSave, unwritten}
-use Rattle.acts.specs.Gestures.{acted, actedIn, doing as acting, holding, inFactory, inNormal, inSetup as actedInSetup, leads, tapsInFactory, tapsInNormal, tapsInSetup, writes}
+use Rattle.acts.specs.Gestures.{acted, actedIn, byAction, holding, actedInFactory, actedInNormal, actedInSetup, leads, tapsInFactory, tapsInNormal, tapsInSetup, writes}
 use Rattle.acts.specs.declared.Core.{Core}
 use Rattle.acts.specs.declared.Effect.{Effect}
 use Rattle.acts.specs.Orders
@@ -55,12 +55,12 @@ use Rattle.registers.specs.declared.Seen.the-variants as seen
 use Rattle.post.specs.declared.Reply.the-variants as reply
 use Rattle.switch.specs.Switch.{Deed, Event, Plain, Shown, event, press, receive, release, restart, tick}
 use Rattle.switch.specs.Paddles.{Moment, after, followed, over, turned, turns}
-use Rattle.switch.specs.Events.{Asked, answering, begun, doing, finished, garbled, gestureAt, getting, job, kindOf, known, obeyed, obeying, opening, ordering, paddleAt, paddleOf, pressing, reading, receiving, refused, releasing, restarting, signalled, signalledBy, ticking, woken}
+use Rattle.switch.specs.Events.{SwitchJob, outcomeOf, begun, jobOfDeed, finished, garbled, gestureAt, jobOfGet, job, kindOf, known, plainAfter, jobOfAct, jobOfGuess, jobOfOrder, paddleAt, paddleOf, jobOfPress, jobOfFrame, jobOfBytes, refused, jobOfRelease, jobOfRestart, signalled, signalledBy, jobOfTick, woken}
 use Rattle.switch.specs.Respond.{respond}
 use Rattle.promises.specs.Bounds.{Sane}
 use Rattle.promises.specs.Modes.{modeFor}
 use Rattle.promises.specs.Numbers.{Asks}
-use Rattle.promises.specs.Alters.{Alters, Cause, EachWrite, FactorySet, Misses, OneEquation, OnlyCauses, OthersStay, PasswordSafe, SetAt, StoredAt, Writing, alone, byDeed, byteAt, byFrame, byOrder, byPaddles, bySaving, bytesAfter, five-taps, no-write, restarted, right-guess, saved as saved-480th, set, stored, ten-taps, writesOf, writing}
+use Rattle.promises.specs.Alters.{Alters, Cause, EachWrite, FactorySet, Misses, OneEquation, OnlyCauses, OthersStay, PasswordSafe, SetAt, StoredAt, Writing, bare, byDeed, byteAt, byFrame, byOrder, byPaddles, bySaving, bytesAfter, five-taps, no-write, restarted, right-guess, saved as saved-480th, set, stored, ten-taps, writesOf, writing}
 use Rattle.promises.proofs.Modes.{turned-mode}
 
 -- ---- writes one after the other
@@ -115,7 +115,7 @@ module _ (all : List ℕ) (paddle : ℕ) (c : Core) where
   holding-save = both (λ (d : Core). d .save ≡ c .save) (optionsOf (dimmingIn all) .capable) refl refl
 
   save-in : (mode : Mode) (g : Gesture) → actedIn mode all paddle g c .core .save ≡ c .save
-  unfolding actedIn inNormal actedInSetup inFactory tapsInNormal tapsInSetup tapsInFactory unwritten stopping entering opened acting setting
+  unfolding actedIn actedInNormal actedInSetup actedInFactory tapsInNormal tapsInSetup tapsInFactory unwritten stopping entering opened byAction setting
   save-in Normal gestures.Nothing = refl
   save-in Normal (gestures.Taps n) = both SameSave (eqb n 1) refl (both SameSave (eqb n 2) refl (both SameSave (eqb n 5) refl refl))
   save-in Normal gestures.Hold = holding-save
@@ -139,7 +139,7 @@ record Wrote (ws : List Writing) (before now : Moment) : Type 0 where
   password : (w : Password) → changed (now .change) w ≡ rewritten ws (changed (before .change) w)
 
 -- A gesture's turn.
-turned-wrote : (i : ℕ) (g : Gesture) (m : Moment) → Wrote (alone (writes (m .core .mode) g) ∷ []) m (turned i g m)
+turned-wrote : (i : ℕ) (g : Gesture) (m : Moment) → Wrote (bare (writes (m .core .mode) g) ∷ []) m (turned i g m)
 unfolding turned after written rewritten
 turned-wrote i g m = record {
   registers = ap (λ (w : Write). applied w [] (m .registers)) (gesture-writes (m .registers) i g (m .core));
@@ -172,14 +172,14 @@ turns-save i [] m = refl
 turns-save i (p ∷ ps) m = turns-save (i + 1) ps (turned i (gesture p) m) ∙ turned-save i (gesture p) m
 
 -- One act more.
-after-wrote : (ws : List Writing) (before m : Moment) (e : Effect) (w : Write) → Wrote ws before m → e .write ≡ w → Wrote (ws ++ (alone w ∷ [])) before (after e m)
+after-wrote : (ws : List Writing) (before m : Moment) (e : Effect) (w : Write) → Wrote ws before m → e .write ≡ w → Wrote (ws ++ (bare w ∷ [])) before (after e m)
 unfolding after written rewritten
 after-wrote ws before m e w k same = record {
-  registers = ap₂ (λ (x : Write) (all : List ℕ). applied x [] all) same (k .registers) ∙ sym (written-joined ws (alone w ∷ []) (before .registers));
+  registers = ap₂ (λ (x : Write) (all : List ℕ). applied x [] all) same (k .registers) ∙ sym (written-joined ws (bare w ∷ []) (before .registers));
   password = λ u.
       followed-changed (m .change) (changeOf (e .write) []) u
       ∙ ap₂ (λ (x : Write) (v : Password). changed (changeOf x []) v) same (k .password u)
-      ∙ sym (rewritten-joined ws (alone w ∷ []) (changed (before .change) u));
+      ∙ sym (rewritten-joined ws (bare w ∷ []) (changed (before .change) u));
 }
 
 -- A paddle let go completes nothing that writes.
@@ -193,7 +193,7 @@ up-writes : (mode : Mode) (contact : Contact) (p : Paddle) → writes mode (gest
 unfolding gestureUp ending
 up-writes mode contact p =
     both (λ (g : Gesture). writes mode g ≡ write.Nothing) (goesUp contact p)
-    (both (λ (g : Gesture). writes mode g ≡ write.Nothing) (eqb (moved contact false p .hold) 0) (let-go mode .0) (let-go mode .1)) (let-go mode .1)
+    (both (λ (g : Gesture). writes mode g ≡ write.Nothing) (eqb (withContact contact false p .hold) 0) (let-go mode .0) (let-go mode .1)) (let-go mode .1)
 
 -- ---- every event
 
@@ -224,12 +224,12 @@ module _ (s : Switch Plain) where
   unfolding garbled settled changed became written rewritten
   garbled-says number = (refl, refl)
 
-  press-says : (contact : ℕ) → Says s [] (settled (s .password) (pressing contact p))
-  unfolding pressing written rewritten
+  press-says : (contact : ℕ) → Says s [] (settled (s .password) (jobOfPress contact p))
+  unfolding jobOfPress written rewritten
   press-says contact = finished-says [] (p .core) (begun p (p .core)) _ (record { registers = refl; password = λ w. refl })
 
-  release-says : (contact : ℕ) → Says s [] (settled (s .password) (releasing contact p))
-  unfolding releasing gestureAt written rewritten applied changeOf changeAt changed became
+  release-says : (contact : ℕ) → Says s [] (settled (s .password) (jobOfRelease contact p))
+  unfolding jobOfRelease gestureAt written rewritten applied changeOf changeAt changed became
   release-says contact =
       let g = gestureAt contact (p .paddles) in
       let none = up-writes (p .core .mode) (kindOf contact) (paddleAt contact (p .paddles)) in
@@ -243,62 +243,62 @@ module _ (s : Switch Plain) where
   turnsOf : Moment
   turnsOf = turns 0 (p .paddles) (begun p (aged (p .core)))
 
-  tick-level : settled (s .password) (ticking p) .next .plain .core .dimmer .level ≡ turnsOf .core .dimmer .level
-  unfolding ticking finished settled after saved turnsOf
+  tick-level : settled (s .password) (jobOfTick p) .next .plain .core .dimmer .level ≡ turnsOf .core .dimmer .level
+  unfolding jobOfTick finished settled after saved turnsOf
   tick-level = ap (λ d. d .level) (signalled-dimmer (turnsOf .sent) (saved (turnsOf .core) .core))
 
   tick-saves : toSave (turnsOf .core) ≡ bySaving (p .core .save) (turnsOf .core .dimmer .level)
   unfolding toSave bySaving turnsOf aged
   tick-saves = ap (λ n. bySaving n (turnsOf .core .dimmer .level)) (turns-save 0 (p .paddles) (begun p (aged (p .core))))
 
-  tick-says : Says s (byDeed s (settled (s .password) (ticking p) .next .plain .core .dimmer .level) tick) (settled (s .password) (ticking p))
-  unfolding byDeed ticking saved aged turnsOf
+  tick-says : Says s (byDeed s (settled (s .password) (jobOfTick p) .next .plain .core .dimmer .level) tick) (settled (s .password) (jobOfTick p))
+  unfolding byDeed jobOfTick saved aged turnsOf
   tick-says =
-      finished-says _ (aged (p .core)) (after (saved (turnsOf .core)) turnsOf) (map next (p .paddles))
+      finished-says _ (aged (p .core)) (after (saved (turnsOf .core)) turnsOf) (map nextPaddle (p .paddles))
       (after-wrote (byPaddles (p .core .mode) (p .paddles)) (begun p (aged (p .core))) turnsOf (saved (turnsOf .core)) _
       (turns-wrote 0 (p .paddles) (begun p (aged (p .core))))
       (tick-saves ∙ ap (bySaving (p .core .save)) (sym tick-level)))
 
-  restart-says : Says s (alone (write.Count Restarts) ∷ []) (settled (s .password) (restarting p))
-  unfolding restarting woken settled changed became written rewritten changeOf changeAt
+  restart-says : Says s (bare (write.Count Restarts) ∷ []) (settled (s .password) (jobOfRestart p))
+  unfolding jobOfRestart woken settled changed became written rewritten changeOf changeAt
   restart-says = (refl, refl)
 
   -- A packet.
-  obeyed-says : (o : Order) (source : ℕ) (values : List ℕ) → Says s (writing (Orders.writes o (p .core .dimmer .level)) values ∷ []) (settled (s .password) (obeying o source values p))
-  unfolding obeying answering obeyed settled written rewritten
+  obeyed-says : (o : Order) (source : ℕ) (values : List ℕ) → Says s (writing (Orders.orderWrites o (p .core .dimmer .level)) values ∷ []) (settled (s .password) (jobOfAct o source values p))
+  unfolding jobOfAct outcomeOf plainAfter settled written rewritten
   obeyed-says o source values =
       let same = order-writes (p .registers) o (p .core) in
       (ap (λ (w : Write). applied w values (p .registers)) same, ap (λ (w : Write). changed (changeOf w values) (s .password)) same)
 
   -- An order that writes nothing.
-  quiet-says : (o : Order) (source : ℕ) (values : List ℕ) → Orders.writes o (p .core .dimmer .level) ≡ write.Nothing → Says s [] (settled (s .password) (obeying o source values p))
+  quiet-says : (o : Order) (source : ℕ) (values : List ℕ) → Orders.orderWrites o (p .core .dimmer .level) ≡ write.Nothing → Says s [] (settled (s .password) (jobOfAct o source values p))
   unfolding written rewritten applied changeOf changeAt changed became
   quiet-says o source values none =
       let one = obeyed-says o source values in
       (one .0 ∙ ap (λ (w : Write). applied w values (p .registers)) none, one .1 ∙ ap (λ (w : Write). changed (changeOf w values) (s .password)) none)
 
   abbrev opens : Outcome Plain Shown
-  opens = answering (opened (p .core)) [] 0 reply.Silence p seen.Hidden
+  opens = outcomeOf (opened (p .core)) [] 0 reply.Silence p seen.Hidden
 
-  guess-says : (right : Bool) → Says s (if right then alone (write.Count Setups) ∷ [] else []) (answered (if right then opens else refused 14 p) (s .password))
-  unfolding answering obeyed opened refused written rewritten changeOf changeAt changed became
+  guess-says : (right : Bool) → Says s (if right then bare (write.Count Setups) ∷ [] else []) (answered (if right then opens else refused 14 p) (s .password))
+  unfolding outcomeOf plainAfter opened refused written rewritten changeOf changeAt changed became
   guess-says true = (refl, refl)
   guess-says false = (refl, refl)
 
-  open-says : (guess : Password) (values : List ℕ) → Says s (byOrder s (order.Open guess) values) (settled (s .password) (opening guess p))
-  unfolding byOrder opening settled
+  open-says : (guess : Password) (values : List ℕ) → Says s (byOrder s (order.Open guess) values) (settled (s .password) (jobOfGuess guess p))
+  unfolding byOrder jobOfGuess settled
   open-says guess values = guess-says (matches (s .password) guess)
 
-  get-says : (first count source : ℕ) → Says s [] (settled (s .password) (getting first count source p))
-  unfolding getting answering obeyed performed unwritten applied written rewritten settled changed became
-  get-says first count source = both (λ (j : Asked). Says s [] (settled (s .password) j)) (inSetup (p .core .mode)) (refl, refl) (refl, refl)
+  get-says : (first count source : ℕ) → Says s [] (settled (s .password) (jobOfGet first count source p))
+  unfolding jobOfGet outcomeOf plainAfter performed unwritten applied written rewritten settled changed became
+  get-says first count source = both (λ (j : SwitchJob). Says s [] (settled (s .password) j)) (inSetup (p .core .mode)) (refl, refl) (refl, refl)
 
-  store-says : (i source : ℕ) (values : List ℕ) → Says s (byOrder s (order.Store i) values) (settled (s .password) (obeying (order.Store i) source values p))
-  unfolding byOrder obeying answering obeyed performed storing settled written rewritten applied changeOf changeAt
+  store-says : (i source : ℕ) (values : List ℕ) → Says s (byOrder s (order.Store i) values) (settled (s .password) (jobOfAct (order.Store i) source values p))
+  unfolding byOrder jobOfAct outcomeOf plainAfter performed storing settled written rewritten applied changeOf changeAt
   store-says i source values = (refl, refl)
 
-  order-says : (o : Order) (source : ℕ) (values : List ℕ) → Says s (byOrder s o values) (settled (s .password) (ordering o source values p))
-  unfolding byOrder ordering Orders.writes
+  order-says : (o : Order) (source : ℕ) (values : List ℕ) → Says s (byOrder s o values) (settled (s .password) (jobOfOrder o source values p))
+  unfolding byOrder jobOfOrder Orders.orderWrites
   order-says (order.Refused n) source values = refused-says n
   order-says (order.Open guess) source values = open-says guess values
   order-says order.Close source values = quiet-says order.Close source values refl
@@ -312,8 +312,8 @@ module _ (s : Switch Plain) where
   order-says order.Report source values = quiet-says order.Report source values refl
   order-says (order.Store i) source values = store-says i source values
 
-  frame-says : (f : Frame) (message : List ℕ) → Says s (byFrame s f message) (settled (s .password) (reading f message p))
-  unfolding byFrame reading
+  frame-says : (f : Frame) (message : List ℕ) → Says s (byFrame s f message) (settled (s .password) (jobOfFrame f message p))
+  unfolding byFrame jobOfFrame
   frame-says (frame.Read h) message = order-says (judged (p .registers) (p .core .mode) h message) (h .source) (drop 2 message)
   frame-says frame.Short message = garbled-says 4
   frame-says frame.Long message = garbled-says 5
@@ -321,23 +321,23 @@ module _ (s : Switch Plain) where
   frame-says frame.Sum message = garbled-says 7
   frame-says frame.Reserved message = garbled-says 8
 
-  deed-says : (d : Deed) → Says s (byDeed s (settled (s .password) (doing d p) .next .plain .core .dimmer .level) d) (settled (s .password) (doing d p))
-  unfolding byDeed doing known receiving
-  deed-says (press contact) = both (λ (j : Asked). Says s [] (settled (s .password) j)) (ltb 3 contact) (refused-says 3) (press-says contact)
-  deed-says (release contact) = both (λ (j : Asked). Says s [] (settled (s .password) j)) (ltb 3 contact) (refused-says 3) (release-says contact)
+  deed-says : (d : Deed) → Says s (byDeed s (settled (s .password) (jobOfDeed d p) .next .plain .core .dimmer .level) d) (settled (s .password) (jobOfDeed d p))
+  unfolding byDeed jobOfDeed known jobOfBytes
+  deed-says (press contact) = both (λ (j : SwitchJob). Says s [] (settled (s .password) j)) (ltb 3 contact) (refused-says 3) (press-says contact)
+  deed-says (release contact) = both (λ (j : SwitchJob). Says s [] (settled (s .password) j)) (ltb 3 contact) (refused-says 3) (release-says contact)
   deed-says tick = tick-says
   deed-says (receive bytes) = frame-says (readOf bytes) (messageOf bytes)
   deed-says restart = restart-says
 
-  abbrev EventSays : Deed → Asked → Bool → Type 0
+  abbrev EventSays : Deed → SwitchJob → Bool → Type 0
   EventSays d j short = Says s (if short then [] else byDeed s (settled (s .password) j .next .plain .core .dimmer .level) d) (settled (s .password) j)
 
-  room-says : (d : Deed) (short : Bool) → EventSays d (if short then done (refused 2 p) nothing else doing d p) short
+  room-says : (d : Deed) (short : Bool) → EventSays d (if short then done (refused 2 p) nothing else jobOfDeed d p) short
   room-says d true = refused-says 2
   room-says d false = deed-says d
 
   event-says : (e : Event) → Says s (writesOf s e) (respond s e)
-  unfolding writesOf Product.respond job
+  unfolding writesOf Product.responseOf job
   event-says e = room-says (e .deed) (ltb (e .room) 48)
 
 -- All 256 registers after any event.
@@ -376,21 +376,21 @@ module _ (Q : Writing → Type 0) where
   each-joined (x ∷ xs) ys a b = (a .0, each-joined xs ys (a .1) b)
 
   -- A gesture writes nothing, or counts a Setup entry by five taps in Normal, or sets the factory values by ten in Setup.
-  gesture-cause : (mode : Mode) (g : Gesture) → Q (alone write.Nothing) → (mode ≡ Normal → g ≡ gestures.Taps 5 → Q (alone (write.Count Setups)))
-      → (mode ≡ Setup → g ≡ gestures.Taps 10 → Q (alone write.Factory)) → Q (alone (writes mode g))
+  gesture-cause : (mode : Mode) (g : Gesture) → Q (bare write.Nothing) → (mode ≡ Normal → g ≡ gestures.Taps 5 → Q (bare (write.Count Setups)))
+      → (mode ≡ Setup → g ≡ gestures.Taps 10 → Q (bare write.Factory)) → Q (bare (writes mode g))
   unfolding writes
   gesture-cause Normal gestures.Nothing none five ten = none
-  gesture-cause Normal (gestures.Taps n) none five ten = cases (λ (w : Write). Q (alone w)) (eqb n 5) (λ e. five refl (ap gestures.Taps (eqb-true n 5 e))) (λ _. none)
+  gesture-cause Normal (gestures.Taps n) none five ten = cases (λ (w : Write). Q (bare w)) (eqb n 5) (λ e. five refl (ap gestures.Taps (eqb-true n 5 e))) (λ _. none)
   gesture-cause Normal gestures.Hold none five ten = none
   gesture-cause Normal gestures.Release none five ten = none
   gesture-cause Setup gestures.Nothing none five ten = none
-  gesture-cause Setup (gestures.Taps n) none five ten = cases (λ (w : Write). Q (alone w)) (eqb n 10) (λ e. ten refl (ap gestures.Taps (eqb-true n 10 e))) (λ _. none)
+  gesture-cause Setup (gestures.Taps n) none five ten = cases (λ (w : Write). Q (bare w)) (eqb n 10) (λ e. ten refl (ap gestures.Taps (eqb-true n 10 e))) (λ _. none)
   gesture-cause Setup gestures.Hold none five ten = none
   gesture-cause Setup gestures.Release none five ten = none
   gesture-cause Factory g none five ten = none
 
   -- What each paddle writes in the mode it finds, all of them write.
-  each-paddle : (mode : Mode) (ps : List Paddle) → ((i : ℕ) → i < length ps → Q (alone (writes (modeFor mode ps i) (gesture (getD ps i fresh))))) → EachWrite Q (byPaddles mode ps)
+  each-paddle : (mode : Mode) (ps : List Paddle) → ((i : ℕ) → i < length ps → Q (bare (writes (modeFor mode ps i) (gesture (getD ps i freshPaddle))))) → EachWrite Q (byPaddles mode ps)
   unfolding byPaddles modeFor
   each-paddle mode [] h = tt
   each-paddle mode (p ∷ ps) h = (h zero (omega arith), each-paddle (leads mode (gesture p)) ps (λ i k. h (suc i) (omega arith)))
@@ -405,10 +405,10 @@ module _ (s : Switch Plain) where
       each-joined (Cause s tick) (byPaddles (plainOf .core .mode) (plainOf .paddles)) _
       (each-paddle (Cause s tick) (plainOf .core .mode) (plainOf .paddles)
       (λ i under.
-      gesture-cause (Cause s tick) (modeFor (plainOf .core .mode) (plainOf .paddles) i) (gesture (getD (plainOf .paddles) i fresh)) no-write
+      gesture-cause (Cause s tick) (modeFor (plainOf .core .mode) (plainOf .paddles) i) (gesture (getD (plainOf .paddles) i freshPaddle)) no-write
       (λ finds taps. five-taps tick (record { ticked = refl; paddle = i; closes = record { there = under; taps = taps; finds = finds } }))
       (λ finds taps. ten-taps i (record { there = under; taps = taps; finds = finds }))))
-      (cases (λ (w : Write). Cause s tick (alone w)) (eqb (plainOf .core .save) 0) (λ e. saved-480th (percentOf level) (eqb-true _ 0 e)) (λ _. no-write), tt)
+      (cases (λ (w : Write). Cause s tick (bare w)) (eqb (plainOf .core .save) 0) (λ e. saved-480th (percentOf level) (eqb-true _ 0 e)) (λ _. no-write), tt)
 
   module _ (bytes : List ℕ) (h : Header) (read : readOf bytes ≡ frame.Read h) where
     asking : (o : Order) → Accepted o (plainOf .registers) (plainOf .core .mode) h (messageOf bytes) → Asks s bytes o

@@ -20,7 +20,7 @@ use Rattle.lamp.proofs.Laws.{output-within}
 use Rattle.packet.specs.Reading.{messageOf, readOf}
 use Rattle.packet.specs.declared.Frame.{Frame}
 use Rattle.packet.specs.declared.Frame.the-variants as frame
-use Rattle.paddle.specs.Paddle.{gesture, next}
+use Rattle.paddle.specs.Paddle.{gesture, nextPaddle}
 use Rattle.paddle.specs.declared.Gesture.{Gesture}
 use Rattle.paddle.specs.declared.Paddle.{Paddle}
 use Rattle.registers.specs.Places.{size}
@@ -45,7 +45,7 @@ use Rattle.post.specs.declared.Reply.the-variants as reply
 use Rattle.post.proofs.Sending.{announced-one, announced-reads, each-so, enveloped-one, replied-reads}
 use Rattle.switch.specs.Switch.{Deed, Event, Plain, Shown, answerOf, answerWith, press, receive, release, restart, shown, tally, tick}
 use Rattle.switch.specs.Paddles.{Moment, after, turned, turns}
-use Rattle.switch.specs.Events.{Asked, answering, begun, doing, finished, garbled, gestureAt, getting, hueOf, job, known, obeyed, obeying, opening, ordering, paddleOf, pressedAt, pressing, reading, receiving, refused, releasedAt, releasing, replyTo, restarting, signalled, signalledBy, ticking, woken}
+use Rattle.switch.specs.Events.{SwitchJob, outcomeOf, begun, jobOfDeed, finished, garbled, gestureAt, jobOfGet, hueOf, job, known, plainAfter, jobOfAct, jobOfGuess, jobOfOrder, paddleOf, pressedAt, jobOfPress, jobOfFrame, jobOfBytes, refused, releasedAt, jobOfRelease, replyTo, jobOfRestart, signalled, signalledBy, jobOfTick, woken}
 use Rattle.switch.specs.Respond.{respond, startedFrom, wallSwitch}
 use Rattle.promises.specs.Bounds.{Bounded, OfSize, Sane, WithinBounds}
 use Rattle.promises.proofs.Outcomes.{Every, every-answer}
@@ -125,7 +125,7 @@ signalled-within [] c w = w
 signalled-within (p ∷ sent) c w = w
 
 -- What a job may come to.
-abbrev Fine : Asked → Type 0
+abbrev Fine : SwitchJob → Type 0
 Fine j = Every Good j
 
 finished-fine : (n : ℕ) (m : Moment) (paddles : List Paddle) → Midway n m → n ≤ 2 → length paddles ≡ 2 → Fine (finished m paddles)
@@ -147,25 +147,25 @@ garbled-fine number p k =
 begun-midway : (p : Plain) (c : Core) → Sane p → Ranged c → Midway 0 (begun p c)
 begun-midway p c k r = record { registers = k .registers; dead = k .dead; dimmer = r; packets = omega arith; sizes = tt }
 
-pressing-fine : (contact : ℕ) (p : Plain) → Sane p → Fine (pressing contact p)
-unfolding pressing pressedAt
+pressing-fine : (contact : ℕ) (p : Plain) → Sane p → Fine (jobOfPress contact p)
+unfolding jobOfPress pressedAt
 pressing-fine contact p k =
     finished-fine 0 (begun p (p .core)) (pressedAt contact (p .paddles)) (begun-midway p (p .core) k (k .dimmer)) (omega arith) (simp length-set (k .paddles))
 
-releasing-fine : (contact : ℕ) (p : Plain) → Sane p → Fine (releasing contact p)
-unfolding releasing releasedAt
+releasing-fine : (contact : ℕ) (p : Plain) → Sane p → Fine (jobOfRelease contact p)
+unfolding jobOfRelease releasedAt
 releasing-fine contact p k =
     finished-fine 1 (turned (paddleOf contact) (gestureAt contact (p .paddles)) (begun p (p .core))) (releasedAt contact (p .paddles))
     (turned-midway 0 (paddleOf contact) (gestureAt contact (p .paddles)) (begun p (p .core)) (begun-midway p (p .core) k (k .dimmer)))
     (omega arith) (simp length-set (k .paddles))
 
-ticking-fine : (p : Plain) → Sane p → Fine (ticking p)
-unfolding ticking saved
+ticking-fine : (p : Plain) → Sane p → Fine (jobOfTick p)
+unfolding jobOfTick saved
 ticking-fine p k =
     let m = turns 0 (p .paddles) (begun p (aged (p .core))) in
     let run = turns-midway 0 0 (p .paddles) (begun p (aged (p .core))) (begun-midway p (aged (p .core)) k (age-ranged (p .core) (k .dimmer))) in
-    finished-fine (0 + length (p .paddles)) (after (saved (m .core)) m) (map next (p .paddles))
-    (after-midway (0 + length (p .paddles)) (saved (m .core)) m (run .dimmer) run) (omega (arith, k .paddles)) (length-map (p .paddles) next ∙ k .paddles)
+    finished-fine (0 + length (p .paddles)) (after (saved (m .core)) m) (map nextPaddle (p .paddles))
+    (after-midway (0 + length (p .paddles)) (saved (m .core)) m (run .dimmer) run) (omega (arith, k .paddles)) (length-map (p .paddles) nextPaddle ∙ k .paddles)
 
 woken-sane : (all : List ℕ) → length all ≡ size → Dead all → Sane (woken all)
 unfolding woken
@@ -176,16 +176,16 @@ woken-sane all long dead = record {
   paddles = refl;
 }
 
-restarting-fine : (p : Plain) → Sane p → Fine (restarting p)
-unfolding restarting
+restarting-fine : (p : Plain) → Sane p → Fine (jobOfRestart p)
+unfolding jobOfRestart
 restarting-fine p k = good 0 [] (woken (p .registers)) (woken-sane (p .registers) (k .registers) (k .dead)) (omega arith) tt
 
 -- A packet's answer: at most one reply.
 answering-fine : (e : Effect) (values : List ℕ) (source : ℕ) (r : Reply) (p : Plain) (s : Seen) → Sane p → Ranged (e .core)
-    → Good (answering e values source r p s .shown) (answering e values source r p s .next)
-unfolding answering obeyed signalled replied
+    → Good (outcomeOf e values source r p s .shown) (outcomeOf e values source r p s .next)
+unfolding outcomeOf plainAfter signalled replied
 answering-fine e values source r p s k w =
-    let now = obeyed e values (hueOf r) p in
+    let now = plainAfter e values (hueOf r) p in
     let percent = percentOf (now .core .dimmer .level) in
     let sent = replied (now .registers) s source r percent in
     good 0 sent now
@@ -198,17 +198,17 @@ answering-fine e values source r p s k w =
     (omega (arith, enveloped-one (headed (now .registers) false source) (replyMessage (now .registers) s r percent)))
     (each-so sent (λ p c. (c .least, c .most)) (replied-reads (now .registers) s source r percent))
 
-obeying-fine : (o : Order) (source : ℕ) (values : List ℕ) (p : Plain) → Sane p → Fine (obeying o source values p)
-unfolding obeying
+obeying-fine : (o : Order) (source : ℕ) (values : List ℕ) (p : Plain) → Sane p → Fine (jobOfAct o source values p)
+unfolding jobOfAct
 obeying-fine o source values p k =
     answering-fine (performed (p .registers) o (p .core)) values source (replyTo o) p seen.Hidden k (order-ranged (p .registers) o (p .core) (k .dimmer))
 
-opening-fine : (guess : Password) (p : Plain) → Sane p → Fine (opening guess p)
-unfolding opening opened entering
+opening-fine : (guess : Password) (p : Plain) → Sane p → Fine (jobOfGuess guess p)
+unfolding jobOfGuess opened entering
 opening-fine guess p k = (answering-fine (opened (p .core)) [] 0 reply.Silence p seen.Hidden k (k .dimmer), refused-fine 14 p k)
 
-getting-fine : (first count source : ℕ) (p : Plain) → Sane p → Fine (getting first count source p)
-unfolding getting answering
+getting-fine : (first count source : ℕ) (p : Plain) → Sane p → Fine (jobOfGet first count source p)
+unfolding jobOfGet outcomeOf
 getting-fine first count source p k =
     let o = performed (p .registers) (order.Get first count) (p .core) in
     let r = reply.Registers first count in
@@ -216,8 +216,8 @@ getting-fine first count source p k =
     both Fine (inSetup (p .core .mode)) (λ w. answering-fine o [] source r p (seen.Shown w) k ranged)
     (answering-fine o [] source r p seen.Hidden k ranged)
 
-ordering-fine : (o : Order) (source : ℕ) (values : List ℕ) (p : Plain) → Sane p → Fine (ordering o source values p)
-unfolding ordering
+ordering-fine : (o : Order) (source : ℕ) (values : List ℕ) (p : Plain) → Sane p → Fine (jobOfOrder o source values p)
+unfolding jobOfOrder
 ordering-fine (order.Refused n) source values p k = refused-fine n p k
 ordering-fine (order.Open guess) source values p k = opening-fine guess p k
 ordering-fine order.Close source values p k = obeying-fine order.Close source values p k
@@ -231,8 +231,8 @@ ordering-fine (order.Blink value) source values p k = obeying-fine (order.Blink 
 ordering-fine order.Report source values p k = obeying-fine order.Report source values p k
 ordering-fine (order.Store i) source values p k = obeying-fine (order.Store i) source values p k
 
-reading-fine : (f : Frame) (m : List ℕ) (p : Plain) → Sane p → Fine (reading f m p)
-unfolding reading
+reading-fine : (f : Frame) (m : List ℕ) (p : Plain) → Sane p → Fine (jobOfFrame f m p)
+unfolding jobOfFrame
 reading-fine (frame.Read h) m p k = ordering-fine (judged (p .registers) (p .core .mode) h m) (h .source) (drop 2 m) p k
 reading-fine frame.Short m p k = garbled-fine 4 p k
 reading-fine frame.Long m p k = garbled-fine 5 p k
@@ -240,14 +240,14 @@ reading-fine frame.Length m p k = garbled-fine 6 p k
 reading-fine frame.Sum m p k = garbled-fine 7 p k
 reading-fine frame.Reserved m p k = garbled-fine 8 p k
 
-known-fine : (contact : ℕ) (asked : Plain → Asked) (p : Plain) → Sane p → Fine (asked p) → Fine (known contact asked p)
+known-fine : (contact : ℕ) (asked : Plain → SwitchJob) (p : Plain) → Sane p → Fine (asked p) → Fine (known contact asked p)
 unfolding known
 known-fine contact asked p k fine = both Fine (ltb 3 contact) (refused-fine 3 p k) fine
 
-doing-fine : (d : Deed) (p : Plain) → Sane p → Fine (doing d p)
-unfolding doing receiving
-doing-fine (press contact) p k = known-fine contact (pressing contact) p k (pressing-fine contact p k)
-doing-fine (release contact) p k = known-fine contact (releasing contact) p k (releasing-fine contact p k)
+doing-fine : (d : Deed) (p : Plain) → Sane p → Fine (jobOfDeed d p)
+unfolding jobOfDeed jobOfBytes
+doing-fine (press contact) p k = known-fine contact (jobOfPress contact) p k (pressing-fine contact p k)
+doing-fine (release contact) p k = known-fine contact (jobOfRelease contact) p k (releasing-fine contact p k)
 doing-fine tick p k = ticking-fine p k
 doing-fine (receive bytes) p k = reading-fine (readOf bytes) (messageOf bytes) p k
 doing-fine restart p k = restarting-fine p k

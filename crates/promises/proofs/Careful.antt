@@ -17,7 +17,7 @@ use Rattle.packet.specs.Reading.{messageOf, readOf}
 use Rattle.packet.specs.declared.Frame.{Frame}
 use Rattle.packet.specs.declared.Frame.the-variants as frame
 use Rattle.packet.specs.declared.Header.{Header}
-use Rattle.paddle.specs.Paddle.{gesture, next}
+use Rattle.paddle.specs.Paddle.{gesture, nextPaddle}
 use Rattle.paddle.specs.declared.Gesture.{Gesture}
 use Rattle.paddle.specs.declared.Gesture.the-variants.{Nothing, Taps, Hold, Release}
 use Rattle.paddle.specs.declared.Paddle.{Paddle}
@@ -37,7 +37,7 @@ use Rattle.acts.specs.declared.Effect.{Effect}
 use Rattle.acts.proofs.Laws.{gesture-writes, order-writes}
 use Rattle.switch.specs.Switch.{Plain, Deed, press, release, tick, receive, restart}
 use Rattle.switch.specs.Paddles.{Moment, after, followed, over, turned, turns}
-use Rattle.switch.specs.Events.{Asked, answering, begun, doing, finished, getting, job, known, obeyed, obeying, opening, ordering, pressing, receiving, reading, releasing, restarting, signalled, ticking}
+use Rattle.switch.specs.Events.{SwitchJob, outcomeOf, begun, jobOfDeed, finished, jobOfGet, job, known, plainAfter, jobOfAct, jobOfGuess, jobOfOrder, jobOfPress, jobOfBytes, jobOfFrame, jobOfRelease, jobOfRestart, signalled, jobOfTick}
 use Rattle.switch.specs.Respond.{wallSwitch}
 
 -- Both bytes of a change are kept, or both are put.
@@ -100,14 +100,14 @@ turns-whole i [] m w = w
 turns-whole i (p ∷ ps) m w = turns-whole (i + 1) ps (turned i (gesture p) m) (turned-whole i (gesture p) m w)
 
 -- What a job must see to, in a state.
-abbrev Fine : Plain → Asked → Type 0
+abbrev Fine : Plain → SwitchJob → Type 0
 Fine p j = Proper wallSwitch p j
 
 finished-fine : (p : Plain) (m : Moment) (paddles : List Paddle) → AsOne (m .change) → Fine p (finished m paddles)
 unfolding finished
 finished-fine p m paddles w = λ _. w
 
-known-fine : (p : Plain) (contact : ℕ) (asked : Plain → Asked) → Fine p (asked p) → Fine p (known contact asked p)
+known-fine : (p : Plain) (contact : ℕ) (asked : Plain → SwitchJob) → Fine p (asked p) → Fine p (known contact asked p)
 unfolding known
 known-fine p contact asked fine = both (Fine p) (ltb 3 contact) (λ _. tt) fine
 
@@ -117,27 +117,27 @@ unfolding inSetup
 set-in-setup p h m first e out =
     true≢false (sym (ap inSetup (asks (order.Set first) (p .registers) (p .core .mode) h m e .when)) ∙ out)
 
-obeying-fine : (p : Plain) (o : Order) (source : ℕ) (values : List ℕ) → Unset (Orders.writes o (p .core .dimmer .level)) → Fine p (obeying o source values p)
-unfolding obeying
+obeying-fine : (p : Plain) (o : Order) (source : ℕ) (values : List ℕ) → Unset (Orders.orderWrites o (p .core .dimmer .level)) → Fine p (jobOfAct o source values p)
+unfolding jobOfAct
 obeying-fine p o source values u =
     λ _. password-whole _ values (subst Unset (sym (order-writes (p .registers) o (p .core))) u)
 
 -- Start Setup: a right guess leaves Setup.
-opening-fine : (p : Plain) (guess : Password) → Fine p (opening guess p)
-unfolding opening answering obeyed signalled opened entering inSetup
+opening-fine : (p : Plain) (guess : Password) → Fine p (jobOfGuess guess p)
+unfolding jobOfGuess outcomeOf plainAfter signalled opened entering inSetup
 opening-fine p guess = refl
 
 -- Get Registers shows the password in Setup alone.
-getting-fine : (p : Plain) (first count source : ℕ) → Fine p (getting first count source p)
-unfolding getting
+getting-fine : (p : Plain) (first count source : ℕ) → Fine p (jobOfGet first count source p)
+unfolding jobOfGet
 getting-fine p first count source = cases (Fine p) (inSetup (p .core .mode)) (λ e. e) (λ _ _. tt)
 
-setting-fine : (p : Plain) (first source : ℕ) (values : List ℕ) → (inSetup (p .core .mode) ≡ false → ⊥) → Fine p (obeying (order.Set first) source values p)
-unfolding obeying
+setting-fine : (p : Plain) (first source : ℕ) (values : List ℕ) → (inSetup (p .core .mode) ≡ false → ⊥) → Fine p (jobOfAct (order.Set first) source values p)
+unfolding jobOfAct
 setting-fine p first source values only = λ out. absurd (only out)
 
-ordering-fine : (p : Plain) (h : Header) (m : List ℕ) (o : Order) (source : ℕ) (values : List ℕ) → judged (p .registers) (p .core .mode) h m ≡ o → Fine p (ordering o source values p)
-unfolding ordering Orders.writes
+ordering-fine : (p : Plain) (h : Header) (m : List ℕ) (o : Order) (source : ℕ) (values : List ℕ) → judged (p .registers) (p .core .mode) h m ≡ o → Fine p (jobOfOrder o source values p)
+unfolding jobOfOrder Orders.orderWrites
 ordering-fine p h m (order.Refused n) source values e = λ _. tt
 ordering-fine p h m (order.Open guess) source values e = opening-fine p guess
 ordering-fine p h m order.Close source values e = obeying-fine p order.Close source values unset-nothing
@@ -151,8 +151,8 @@ ordering-fine p h m (order.Blink value) source values e = obeying-fine p (order.
 ordering-fine p h m order.Report source values e = obeying-fine p order.Report source values unset-nothing
 ordering-fine p h m (order.Store i) source values e = obeying-fine p (order.Store i) source values (λ first e. let z : _≡_ {A = ℕ} 0 1 = cc in omega arith)
 
-reading-fine : (p : Plain) (f : Frame) (m : List ℕ) → Fine p (reading f m p)
-unfolding reading
+reading-fine : (p : Plain) (f : Frame) (m : List ℕ) → Fine p (jobOfFrame f m p)
+unfolding jobOfFrame
 reading-fine p (frame.Read h) m = ordering-fine p h m (judged (p .registers) (p .core .mode) h m) (h .source) _ refl
 reading-fine p frame.Short m = λ _. tt
 reading-fine p frame.Long m = λ _. tt
@@ -160,16 +160,16 @@ reading-fine p frame.Length m = λ _. tt
 reading-fine p frame.Sum m = λ _. tt
 reading-fine p frame.Reserved m = λ _. tt
 
-ticking-fine : (p : Plain) → Fine p (ticking p)
-unfolding ticking saved
+ticking-fine : (p : Plain) → Fine p (jobOfTick p)
+unfolding jobOfTick saved
 ticking-fine p =
     let m = turns 0 (p .paddles) (begun p (aged (p .core))) in
-    finished-fine p (after (saved (m .core)) m) (map next (p .paddles)) (after-whole (saved (m .core)) m (unset-save (m .core)) (turns-whole 0 (p .paddles) (begun p (aged (p .core))) tt))
+    finished-fine p (after (saved (m .core)) m) (map nextPaddle (p .paddles)) (after-whole (saved (m .core)) m (unset-save (m .core)) (turns-whole 0 (p .paddles) (begun p (aged (p .core))) tt))
 
-doing-fine : (d : Deed) (p : Plain) → Fine p (doing d p)
-unfolding doing pressing releasing restarting receiving
-doing-fine (press contact) p = known-fine p contact (pressing contact) (finished-fine p _ _ tt)
-doing-fine (release contact) p = known-fine p contact (releasing contact) (finished-fine p _ _ (turned-whole _ _ _ tt))
+doing-fine : (d : Deed) (p : Plain) → Fine p (jobOfDeed d p)
+unfolding jobOfDeed jobOfPress jobOfRelease jobOfRestart jobOfBytes
+doing-fine (press contact) p = known-fine p contact (jobOfPress contact) (finished-fine p _ _ tt)
+doing-fine (release contact) p = known-fine p contact (jobOfRelease contact) (finished-fine p _ _ (turned-whole _ _ _ tt))
 doing-fine tick p = ticking-fine p
 doing-fine (receive bytes) p = reading-fine p (readOf bytes) (messageOf bytes)
 doing-fine restart p = λ _. tt

@@ -16,11 +16,11 @@ use Rattle.vault.specs.Product
 use Rattle.vault.specs.Vault.{password}
 use Rattle.vault.specs.declared.Mode.the-variants.{Setup}
 use Rattle.vault.proofs.Laws.{equal-matches, respond-right}
-use Rattle.dimmer.specs.Dimmer.{allowed, distance, fresh as freshDimmer, moved, optionsOf, rateOf, remembered, setTo, tickedBy, ticksOf as ticksAt, walked, wanted}
+use Rattle.dimmer.specs.Dimmer.{allowed, distance, freshDimmer, headingTo, optionsOf, rateOf, remembered, setTo, tickedBy, ticksPerStep, walked, wanted}
 use Rattle.dimmer.specs.declared.Dimmer.{Dimmer}
 use Rattle.dimmer.specs.declared.Motion.the-variants.{Idle}
 use Rattle.dimmer.proofs.Laws.{fade-ends, fade-runs}
-use Rattle.lamp.specs.Lamp.{bit, bitColour, blinked, colour, fresh as freshLamp}
+use Rattle.lamp.specs.Lamp.{bitOf, bitColour, signalSet, colour, freshLamp}
 use Rattle.lamp.specs.Promises.{blinkAfter, versionAfter}
 use Rattle.lamp.specs.declared.Lamp.{Lamp}
 use Rattle.lamp.proofs.Laws.{output-plain, skip-none, version-shows}
@@ -28,25 +28,25 @@ use Rattle.packet.specs.Layout.{firstByte, headerIn, reservedIn, secondByte, to
 use Rattle.packet.specs.Reading.{messageOf, readOf}
 use Rattle.packet.specs.declared.Frame.the-variants as frame
 use Rattle.packet.proofs.Laws as packet
-use Rattle.paddle.specs.Paddle.{down, fresh, next, pressed}
+use Rattle.paddle.specs.Paddle.{down, freshPaddle, nextPaddle, pressed}
 use Rattle.paddle.specs.declared.Gesture.the-variants.{Taps}
 use Rattle.paddle.specs.declared.Paddle.{Paddle}
 use Rattle.registers.specs.Places.{counterPlace, digitIn, dimmingIn, lightIn, networkIn, singleIn, size}
 use Rattle.registers.specs.Registers.{apart, found, seek, valid}
-use Rattle.registers.specs.Write.{applied, counted, stored}
+use Rattle.registers.specs.Write.{applied, oneMore, stored}
 use Rattle.registers.specs.declared.Found.the-variants.{At}
 use Rattle.registers.specs.declared.Seen.the-variants as seen
 use Rattle.judge.specs.Judge.{judged}
 use Rattle.judge.specs.declared.Order.the-variants as order
 use Rattle.judge.proofs.Laws as judge
 use Rattle.acts.specs.Core.{entering, opened, setting, startLevel, started, unwritten}
-use Rattle.acts.specs.Gestures.{acted, actedIn, doing, inNormal, tapsInNormal}
+use Rattle.acts.specs.Gestures.{acted, actedIn, byAction, actedInNormal, tapsInNormal}
 use Rattle.acts.specs.Orders.{performed}
 use Rattle.post.specs.Post.{enveloped, header, replied, replyMessage}
 use Rattle.post.specs.declared.Reply.the-variants as reply
 use Rattle.post.proofs.Sending.{case-a, case-j}
 use Rattle.switch.specs.Switch.{Event, Plain, Shown, answerOf, answerWith, event, freshPaddles, press, receive}
-use Rattle.switch.specs.Events.{Asked, answering, finished, job, kindOf, obeyed, obeying, opening, ordering, paddleAt, paddleOf, pressedAt, pressing, refused, replyTo, signalled, woken}
+use Rattle.switch.specs.Events.{SwitchJob, outcomeOf, finished, job, kindOf, plainAfter, jobOfAct, jobOfGuess, jobOfOrder, paddleAt, paddleOf, pressedAt, jobOfPress, refused, replyTo, signalled, woken}
 use Rattle.switch.specs.Respond.{respond, startAnswer, startedFrom, wallSwitch}
 use Rattle.promises.specs.Cases.{Bench, Cases, Dark, benchImage, darkImage, packetA, packetB, packetC, packetE, packetFull, packetHalf, replyA, zeros}
 use Rattle.promises.specs.Numbers.{numberAt, refused as row-refused, wrong-password, wrong-sum}
@@ -104,60 +104,60 @@ module _ (s : Switch Plain) (room : ℕ) (enough : 48 ≤ room) (bench : Bench s
         says = reads .c-message;
       })
 
-  job-a : job (s .plain) (event room (receive packetA)) ≡ obeying order.Report 9 (drop 2 (messageOf packetA)) (s .plain)
-  unfolding ordering
+  job-a : job (s .plain) (event room (receive packetA)) ≡ jobOfAct order.Report 9 (drop 2 (messageOf packetA)) (s .plain)
+  unfolding jobOfOrder
   job-a = receive-job (s .plain) room packetA (header false 1 5 9) order.Report enough (reads .a) judged-a
 
   a-number : numberAt s (event room (receive packetA)) ≡ 0
-  unfolding Product.respond obeying answering answerOf answerWith settled
-  a-number = ap (λ (j : Asked). settled (s .password) j .shown .answer .number) job-a
+  unfolding Product.responseOf jobOfAct outcomeOf answerOf answerWith settled
+  a-number = ap (λ (j : SwitchJob). settled (s .password) j .shown .answer .number) job-a
 
   a-sent : respond s (event room (receive packetA)) .shown .sent ≡ replyA ∷ []
-  unfolding Product.respond obeying answering obeyed signalled performed replyTo unwritten applied settled percentOf
-  a-sent = ap (λ (j : Asked). settled (s .password) j .shown .sent) job-a ∙ rw (bench .level) (case-a (s .plain .registers) seen.Hidden (bench .network) (bench .unit))
+  unfolding Product.responseOf jobOfAct outcomeOf plainAfter signalled performed replyTo unwritten applied settled percentOf
+  a-sent = ap (λ (j : SwitchJob). settled (s .password) j .shown .sent) job-a ∙ rw (bench .level) (case-a (s .plain .registers) seen.Hidden (bench .network) (bench .unit))
 
   job-b : (i : ℕ) → found (s .plain .registers) 3 ≡ At i
-      → job (s .plain) (event room (receive packetB)) ≡ obeying (order.Goto 50 0) 9 (drop 2 (messageOf packetB)) (s .plain)
-  unfolding ordering
+      → job (s .plain) (event room (receive packetB)) ≡ jobOfAct (order.Goto 50 0) 9 (drop 2 (messageOf packetB)) (s .plain)
+  unfolding jobOfOrder
   job-b i there = receive-job (s .plain) room packetB (header true 1 3 9) (order.Goto 50 0) enough (reads .b) (judged-b i there)
 
   b-number : (i : ℕ) → found (s .plain .registers) 3 ≡ At i → numberAt s (event room (receive packetB)) ≡ 0
-  unfolding Product.respond obeying answering answerOf answerWith settled
-  b-number i there = ap (λ (j : Asked). settled (s .password) j .shown .answer .number) (job-b i there)
+  unfolding Product.responseOf jobOfAct outcomeOf answerOf answerWith settled
+  b-number i there = ap (λ (j : SwitchJob). settled (s .password) j .shown .answer .number) (job-b i there)
 
   b-set : setTo (s .plain .core .dimmer) 50 0 (optionsOf (dimmingIn (s .plain .registers))) .level ≡ step 100
-  unfolding setTo allowed wanted rateOf moved stepOf ticksAt
+  unfolding setTo allowed wanted rateOf headingTo stepOf ticksPerStep
   b-set = rw (bench .capable)
 
   b-rest : setTo (s .plain .core .dimmer) 50 0 (optionsOf (dimmingIn (s .plain .registers))) .motion ≡ Idle
-  unfolding setTo allowed wanted rateOf moved stepOf ticksAt
+  unfolding setTo allowed wanted rateOf headingTo stepOf ticksPerStep
   b-rest = rw (bench .capable)
 
   b-level : (i : ℕ) → found (s .plain .registers) 3 ≡ At i → respond s (event room (receive packetB)) .shown .answer .level ≡ step 100
-  unfolding Product.respond obeying answering obeyed signalled performed setting unwritten answerOf answerWith settled
-  b-level i there = ap (λ (j : Asked). settled (s .password) j .shown .answer .level) (job-b i there) ∙ b-set
+  unfolding Product.responseOf jobOfAct outcomeOf plainAfter signalled performed setting unwritten answerOf answerWith settled
+  b-level i there = ap (λ (j : SwitchJob). settled (s .password) j .shown .answer .level) (job-b i there) ∙ b-set
 
   b-motion : (i : ℕ) → found (s .plain .registers) 3 ≡ At i → respond s (event room (receive packetB)) .next .plain .core .dimmer .motion ≡ Idle
-  unfolding Product.respond obeying answering obeyed signalled performed setting unwritten settled
-  b-motion i there = ap (λ (j : Asked). settled (s .password) j .next .plain .core .dimmer .motion) (job-b i there) ∙ b-rest
+  unfolding Product.responseOf jobOfAct outcomeOf plainAfter signalled performed setting unwritten settled
+  b-motion i there = ap (λ (j : SwitchJob). settled (s .password) j .next .plain .core .dimmer .motion) (job-b i there) ∙ b-rest
 
-  job-c : job (s .plain) (event room (receive packetC)) ≡ opening (password 0x12 0x34) (s .plain)
-  unfolding ordering
+  job-c : job (s .plain) (event room (receive packetC)) ≡ jobOfGuess (password 0x12 0x34) (s .plain)
+  unfolding jobOfOrder
   job-c = receive-job (s .plain) room packetC (header false 1 5 9) (order.Open (password 0x12 0x34)) enough (reads .c) judged-c
 
   c-answer : s .password ≡ password 0x12 0x34
-      → respond s (event room (receive packetC)) ≡ answered (answering (opened (s .plain .core)) [] 0 reply.Silence (s .plain) seen.Hidden) (s .password)
-  unfolding opening
+      → respond s (event room (receive packetC)) ≡ answered (outcomeOf (opened (s .plain .core)) [] 0 reply.Silence (s .plain) seen.Hidden) (s .password)
+  unfolding jobOfGuess
   c-answer same =
-      respond-right wallSwitch s (event room (receive packetC)) (password 0x12 0x34) (answering (opened (s .plain .core)) [] 0 reply.Silence (s .plain) seen.Hidden) (refused 14 (s .plain))
+      respond-right wallSwitch s (event room (receive packetC)) (password 0x12 0x34) (outcomeOf (opened (s .plain .core)) [] 0 reply.Silence (s .plain) seen.Hidden) (refused 14 (s .plain))
       job-c (equal-matches (s .password) (password 0x12 0x34) same)
 
   c-number : s .password ≡ password 0x12 0x34 → numberAt s (event room (receive packetC)) ≡ 0
-  unfolding answering answerOf answerWith
+  unfolding outcomeOf answerOf answerWith
   c-number same = ap (λ a. a .shown .answer .number) (c-answer same)
 
   c-mode : s .password ≡ password 0x12 0x34 → respond s (event room (receive packetC)) .shown .answer .mode ≡ Setup
-  unfolding answering obeyed signalled opened entering answerOf answerWith
+  unfolding outcomeOf plainAfter signalled opened entering answerOf answerWith
   c-mode same = ap (λ a. a .shown .answer .mode) (c-answer same)
 
   d-number : (s .password ≡ password 0x12 0x34 → ⊥) → numberAt s (event room (receive packetC)) ≡ 14
@@ -180,23 +180,23 @@ Has s contact q = (length (s .plain .paddles) ≡ 2) × (paddleAt contact (s .pl
 
 pub has-pressed : (contact : ℕ) → contact ≤ 3 → (s : Switch Plain) (q : Paddle) → Has s contact q
     → Has (respond s (with48 (press contact)) .next) contact (pressed (kindOf contact) q)
-unfolding Product.respond settled pressing finished pressedAt paddleOf
+unfolding Product.responseOf settled jobOfPress finished pressedAt paddleOf
 has-pressed contact known s q h =
-    let same = ap (λ (j : Asked). settled (s .password) j .next .plain .paddles) (press-job (s .plain) 48 contact (omega arith) known) in
-    rw same (length-set (s .plain .paddles) _ _ ∙ h .0, getD-set-same (s .plain .paddles) (contact % 2) _ fresh (omega (arith, h .0)) ∙ ap (pressed (kindOf contact)) (h .1))
+    let same = ap (λ (j : SwitchJob). settled (s .password) j .next .plain .paddles) (press-job (s .plain) 48 contact (omega arith) known) in
+    rw same (length-set (s .plain .paddles) _ _ ∙ h .0, getD-set-same (s .plain .paddles) (contact % 2) _ freshPaddle (omega (arith, h .0)) ∙ ap (pressed (kindOf contact)) (h .1))
 
 -- ---- (h): the fade that a Goto begins
 
 -- From dark, one step for each so many ticks, until it rests at its target.
-rising : (n : ℕ) (last target : Step) (each : ℕ) → 0 < each → n < target .0 * each → tickedBy n (moved off last target each) .level ≡ step (n / each)
+rising : (n : ℕ) (last target : Step) (each : ℕ) → 0 < each → n < target .0 * each → tickedBy n (headingTo off last target each) .level ≡ step (n / each)
 unfolding distance walked
 rising n last target each some h =
     let lit : 0 < target .0 = three-ways (target .0) 0 (λ k. absurd (omega arith)) (λ k. absurd (omega (arith, rw k at h))) (λ k. k) in
     let far : target .0 - 0 + (0 - target .0) ≡ target .0 = omega arith in
     ap (λ (d : Dimmer). d .level) (fade-runs n off last target each some (rw far h)) ∙ rw (lt-ltb 0 (target .0) lit) (ap step (omega arith))
 
-begins-dark : (last target : Step) (each : ℕ) → 0 < each → 0 < target .0 → moved off last target each .level ≡ off
-unfolding moved
+begins-dark : (last target : Step) (each : ℕ) → 0 < each → 0 < target .0 → headingTo off last target each .level ≡ off
+unfolding headingTo
 begins-dark last target each some lit = rw (ne-eqb each 0 (omega arith), ne-eqb 0 (target .0) (omega arith))
 
 module _ (s : Switch Plain) (room : ℕ) (bytes : List ℕ) (enough : 48 ≤ room) (dark : Dark s) (level rate : ℕ) (accepts : Accepts s bytes (order.Goto level rate)) where
@@ -206,28 +206,28 @@ module _ (s : Switch Plain) (room : ℕ) (bytes : List ℕ) (enough : 48 ≤ roo
   abbrev set-dimmer : Dimmer
   set-dimmer = setTo (dimmerIn s) level rate (optionsOf (dimmingIn (s .plain .registers)))
 
-  goto-job : job (s .plain) goto ≡ obeying (order.Goto level rate) (accepts .header .source) (drop 2 (messageOf bytes)) (s .plain)
-  unfolding ordering
+  goto-job : job (s .plain) goto ≡ jobOfAct (order.Goto level rate) (accepts .header .source) (drop 2 (messageOf bytes)) (s .plain)
+  unfolding jobOfOrder
   goto-job =
       receive-job (s .plain) room bytes (accepts .header) (order.Goto level rate) enough (packet.only (frame.Read (accepts .header)) bytes (accepts .sound))
       (judge.only _ _ (accepts .header) (order.Goto level rate) (messageOf bytes) (accepts .accepted))
 
   goto-dimmer : dimmerIn (respond s goto .next) ≡ set-dimmer
-  unfolding Product.respond obeying answering obeyed signalled performed setting unwritten settled
-  goto-dimmer = ap (λ (j : Asked). settled (s .password) j .next .plain .core .dimmer) goto-job
+  unfolding Product.responseOf jobOfAct outcomeOf plainAfter signalled performed setting unwritten settled
+  goto-dimmer = ap (λ (j : SwitchJob). settled (s .password) j .next .plain .core .dimmer) goto-job
 
   goto-mode : modeIn (respond s goto .next) ≡ modeIn s
-  unfolding Product.respond obeying answering obeyed signalled performed setting unwritten settled
-  goto-mode = ap (λ (j : Asked). settled (s .password) j .next .plain .core .mode) goto-job
+  unfolding Product.responseOf jobOfAct outcomeOf plainAfter signalled performed setting unwritten settled
+  goto-mode = ap (λ (j : SwitchJob). settled (s .password) j .next .plain .core .mode) goto-job
 
   goto-rests : AtRest (respond s goto .next)
-  unfolding Product.respond obeying answering obeyed signalled performed setting unwritten settled blinked
-  goto-rests = rest-as s (respond s goto .next) (ap (λ (j : Asked). settled (s .password) j .next .plain .paddles) goto-job)
-      (ap (λ (j : Asked). settled (s .password) j .next .plain .core .lamp .flash) goto-job ∙ dark .rests .steady) (dark .rests)
+  unfolding Product.responseOf jobOfAct outcomeOf plainAfter signalled performed setting unwritten settled signalSet
+  goto-rests = rest-as s (respond s goto .next) (ap (λ (j : SwitchJob). settled (s .password) j .next .plain .paddles) goto-job)
+      (ap (λ (j : SwitchJob). settled (s .password) j .next .plain .core .lamp .flash) goto-job ∙ dark .rests .steady) (dark .rests)
 
   goto-shows : Shows (modeIn s) (set-dimmer .level) [] (respond s goto .shown)
-  unfolding Product.respond obeying answering obeyed signalled performed setting unwritten settled replyTo replied replyMessage enveloped answerOf answerWith blinked
-  goto-shows = subst (λ (j : Asked). Shows (modeIn s) (set-dimmer .level) [] (settled (s .password) j .shown)) (sym goto-job) record { number = refl; mode = refl; level = refl; output = output-plain _ (set-dimmer .level) (dark .rests .steady); counted = refl; sent = refl }
+  unfolding Product.responseOf jobOfAct outcomeOf plainAfter signalled performed setting unwritten settled replyTo replied replyMessage enveloped answerOf answerWith signalSet
+  goto-shows = subst (λ (j : SwitchJob). Shows (modeIn s) (set-dimmer .level) [] (settled (s .password) j .shown)) (sym goto-job) record { number = refl; mode = refl; level = refl; output = output-plain _ (set-dimmer .level) (dark .rests .steady); counted = refl; sent = refl }
 
   goto-ticks : (n : ℕ) (to : Step) → tickedBy n set-dimmer .level ≡ to → 1 ≤ n → Shows (modeIn s) to [] (nthTick (respond s goto .next) n)
   goto-ticks n to e some =
@@ -237,19 +237,19 @@ module _ (s : Switch Plain) (room : ℕ) (bytes : List ℕ) (enough : 48 ≤ roo
 
   -- A capable dimmer takes the level and the rate as they are asked for.
   goto-moves : level ≤ 100 → rate ≤ 15
-      → set-dimmer ≡ moved off (remembered (stepOf (percent level)) (dimmerIn s .last)) (stepOf (percent level)) (ticksAt rate)
+      → set-dimmer ≡ headingTo off (remembered (stepOf (percent level)) (dimmerIn s .last)) (stepOf (percent level)) (ticksPerStep rate)
   unfolding setTo allowed wanted rateOf
   goto-moves h k = simp (dark .capable, dark .level, le-ltb 100 level h, le-ltb 15 rate k)
 
   -- So it fades, with so many ticks for each step and so many in all.
-  fades : (each total : ℕ) (target : Step) → level ≤ 100 → rate ≤ 15 → stepOf (percent level) ≡ target → ticksAt rate ≡ each → 0 < each → 0 < target .0
+  fades : (each total : ℕ) (target : Step) → level ≤ 100 → rate ≤ 15 → stepOf (percent level) ≡ target → ticksPerStep rate ≡ each → 0 < each → 0 < target .0
       → 1 < total → target .0 * each ≡ total → (total - 1) / each ≡ target .0 - 1 → Fades s goto each total target
   unfolding distance
   fades each total target h k aims takes some lit many whole short =
       let last = remembered target (dimmerIn s .last) in
       let before-last : total - 1 < target .0 * each = rw whole (omega arith) in
-      let moves : set-dimmer ≡ moved off last target each = goto-moves h k ∙ ap₂ (λ (l : Step) (n : ℕ). moved off (remembered l (dimmerIn s .last)) l n) aims takes in
-      let after : (n : ℕ) → tickedBy n set-dimmer .level ≡ tickedBy n (moved off last target each) .level = λ n. ap (λ (d : Dimmer). tickedBy n d .level) moves in
+      let moves : set-dimmer ≡ headingTo off last target each = goto-moves h k ∙ ap₂ (λ (l : Step) (n : ℕ). headingTo off (remembered l (dimmerIn s .last)) l n) aims takes in
+      let after : (n : ℕ) → tickedBy n set-dimmer .level ≡ tickedBy n (headingTo off last target each) .level = λ n. ap (λ (d : Dimmer). tickedBy n d .level) moves in
       let far : target .0 - 0 + (0 - target .0) ≡ target .0 = omega arith in
       record {
         begins = shows-as _ _ _ _ _ _ _ refl (ap (λ (d : Dimmer). d .level) moves ∙ begins-dark last target each some lit) refl goto-shows;
@@ -269,7 +269,7 @@ start-rests image = record {
   untapped = λ contact. ap (λ (p : Paddle). p .taps) (two-fresh (contact % 2));
 }
   where
-    two-fresh : (i : ℕ) → getD freshPaddles i fresh ≡ fresh
+    two-fresh : (i : ℕ) → getD freshPaddles i freshPaddle ≡ freshPaddle
     two-fresh zero = refl
     two-fresh (suc zero) = refl
     two-fresh (suc (suc i)) = refl
@@ -316,27 +316,27 @@ module _ (image : List ℕ) (whole : length image ≡ size) (two : getD image 0x
 -- ---- the switches of the table
 
 bench-there : Bench (startedFrom benchImage)
-unfolding startedFrom woken apart started startLevel benchImage zeros applied counterPlace counted stored optionsOf stepOf freshDimmer
+unfolding startedFrom woken apart started startLevel benchImage zeros applied counterPlace oneMore stored optionsOf stepOf freshDimmer
 bench-there = record { network = refl; unit = refl; level = refl; mode = refl; capable = refl }
 
 bench-darkens : dimmerBy (Taps 1) 0 (startedFrom benchImage) .level ≡ off
-unfolding startedFrom woken apart started startLevel benchImage zeros applied counterPlace counted stored optionsOf stepOf freshDimmer acted actedIn inNormal tapsInNormal unwritten doing setting singleIn setTo allowed wanted rateOf moved ticksAt paddleOf
+unfolding startedFrom woken apart started startLevel benchImage zeros applied counterPlace oneMore stored optionsOf stepOf freshDimmer acted actedIn actedInNormal tapsInNormal unwritten byAction setting singleIn setTo allowed wanted rateOf headingTo ticksPerStep paddleOf
 bench-darkens = refl
 
 bench-linked : found (startedFrom benchImage .plain .registers) 3 ≡ At 0
-unfolding startedFrom woken apart benchImage zeros applied counterPlace counted stored found seek valid
+unfolding startedFrom woken apart benchImage zeros applied counterPlace oneMore stored found seek valid
 bench-linked = refl
 
 dark-there : Dark (startedFrom darkImage)
-unfolding startedFrom woken apart started startLevel darkImage benchImage zeros applied counterPlace counted stored optionsOf stepOf freshDimmer
+unfolding startedFrom woken apart started startLevel darkImage benchImage zeros applied counterPlace oneMore stored optionsOf stepOf freshDimmer
 dark-there = record { rests = start-rests darkImage; capable = refl; level = refl }
 
 dark-network : networkIn (startedFrom darkImage .plain .registers) ≡ 1
-unfolding startedFrom woken apart darkImage benchImage zeros applied counterPlace counted stored
+unfolding startedFrom woken apart darkImage benchImage zeros applied counterPlace oneMore stored
 dark-network = refl
 
 dark-linked : found (startedFrom darkImage .plain .registers) 3 ≡ At 0
-unfolding startedFrom woken apart darkImage benchImage zeros applied counterPlace counted stored found seek valid
+unfolding startedFrom woken apart darkImage benchImage zeros applied counterPlace oneMore stored found seek valid
 dark-linked = refl
 
 accepts : (bytes : List ℕ) (level rate : ℕ) → readOf bytes ≡ frame.Read (header true 1 3 9) → messageOf bytes ≡ 0x22 ∷ level ∷ rate ∷ [] → Accepts (startedFrom darkImage) bytes (order.Goto level rate)
@@ -361,7 +361,7 @@ accepts-full = accepts packetFull 100 15 refl refl
 
 -- The whole table.
 pub cases : Cases
-unfolding stepOf ticksAt tabulated versionAfter blinkAfter bitColour bit blinks repeated
+unfolding stepOf ticksPerStep tabulated versionAfter blinkAfter bitColour bitOf blinks repeated
 cases = record {
   bench = bench-there;
   linked = bench-linked;

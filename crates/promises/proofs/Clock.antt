@@ -9,20 +9,20 @@ use Rattle.vault.specs.Job.{Switch, became, changed, settled, switch}
 use Rattle.vault.specs.Machine.{run}
 use Rattle.vault.specs.Product
 use Rattle.vault.specs.declared.Password.{Password}
-use Rattle.paddle.specs.Paddle.{fresh, next}
-use Rattle.paddle.specs.Promises.{Same, raised, ticks}
+use Rattle.paddle.specs.Paddle.{freshPaddle, nextPaddle}
+use Rattle.paddle.specs.Promises.{Same, raised, paddleTicks}
 use Rattle.paddle.specs.declared.Paddle.{Paddle}
 use Rattle.paddle.proofs.Alike.{alike-same, rested}
 use Rattle.registers.proofs.Laws.{password-back, registers-back}
 use Rattle.switch.specs.Switch.{Plain, event, restart, tick}
-use Rattle.switch.specs.Events.{doing, finished, job, paddleOf, restarting, ticking, woken}
+use Rattle.switch.specs.Events.{jobOfDeed, finished, job, paddleOf, jobOfRestart, jobOfTick, woken}
 use Rattle.switch.specs.Respond.{respond, startedFrom}
 use Rattle.promises.specs.Ticking.{runOf, ticksOf, with48}
 use Rattle.promises.specs.Clock.{Clock, RestartForgets, RestartForgetsForGood, RestartIsStart, TicksBeforeAPress}
 use Rattle.promises.proofs.Cases.{next-at, ticks-shift}
 
 restarted : (s : Switch Plain) (room : ℕ) → 48 ≤ room → respond s (event room restart) .next ≡ switch (woken (s .plain .registers)) (s .password)
-unfolding Product.respond job doing restarting settled changed became
+unfolding Product.responseOf job jobOfDeed jobOfRestart settled changed became
 restarted s room enough = rw (le-ltb room 48 enough)
 
 restart-is-start : RestartIsStart
@@ -41,26 +41,26 @@ restart-forgets-for-good s t room other a b sane sane′ same es e =
     ap (λ (u : Switch Plain). respond (runOf u es) e) (restart-forgets s t room other a b sane sane′ same)
 
 -- The paddles of a switch tick as the recogniser does.
-paddles-ticked : (s : Switch Plain) → respond s (with48 tick) .next .plain .paddles ≡ map next (s .plain .paddles)
-unfolding Product.respond job doing ticking finished settled
+paddles-ticked : (s : Switch Plain) → respond s (with48 tick) .next .plain .paddles ≡ map nextPaddle (s .plain .paddles)
+unfolding Product.responseOf job jobOfDeed jobOfTick finished settled
 paddles-ticked s = refl
 
-paddle-ticks : (n : ℕ) (s : Switch Plain) (i : ℕ) → i < length (s .plain .paddles) → getD (runOf s (ticksOf n) .plain .paddles) i fresh ≡ ticks n (getD (s .plain .paddles) i fresh)
-unfolding run ticksOf ticks
+paddle-ticks : (n : ℕ) (s : Switch Plain) (i : ℕ) → i < length (s .plain .paddles) → getD (runOf s (ticksOf n) .plain .paddles) i freshPaddle ≡ paddleTicks n (getD (s .plain .paddles) i freshPaddle)
+unfolding run ticksOf paddleTicks
 paddle-ticks zero s i h = refl
 paddle-ticks (suc n) s i h =
     let now = respond s (with48 tick) .next in
     let two = paddles-ticked s in
-    paddle-ticks n now i (rw (two, length-map (s .plain .paddles) next) h)
-    ∙ ap (ticks n) (ap (λ (ps : List Paddle). getD ps i fresh) two ∙ next-at (s .plain .paddles) i h)
-    ∙ ticks-shift n (getD (s .plain .paddles) i fresh)
+    paddle-ticks n now i (rw (two, length-map (s .plain .paddles) nextPaddle) h)
+    ∙ ap (paddleTicks n) (ap (λ (ps : List Paddle). getD ps i freshPaddle) two ∙ next-at (s .plain .paddles) i h)
+    ∙ ticks-shift n (getD (s .plain .paddles) i freshPaddle)
 
 ticks-before-a-press : TicksBeforeAPress
 unfolding paddleOf
 ticks-before-a-press s contact n hold gap sane rests =
-    subst (λ (p : Paddle). Same p fresh)
-    (sym (paddle-ticks n s (contact % 2) (omega (arith, sane .paddles)) ∙ ap (ticks n) rests))
-    (alike-same (ticks n (raised hold gap 0)) fresh (rested n hold gap))
+    subst (λ (p : Paddle). Same p freshPaddle)
+    (sym (paddle-ticks n s (contact % 2) (omega (arith, sane .paddles)) ∙ ap (paddleTicks n) rests))
+    (alike-same (paddleTicks n (raised hold gap 0)) freshPaddle (rested n hold gap))
 
 -- All that is promised of the clock.
 pub clock : Clock

@@ -10,25 +10,25 @@ use Rattle.packet.specs.declared.Header.{Header}
 use Rattle.judge.specs.Judge.{judged}
 use Rattle.judge.specs.declared.Order.{Order}
 use Rattle.switch.specs.Switch.{Plain, event, press, receive, release, tick}
-use Rattle.switch.specs.Events.{doing, job, known, ordering, pressing, reading, receiving, releasing, ticking}
+use Rattle.switch.specs.Events.{jobOfDeed, job, known, jobOfOrder, jobOfPress, jobOfFrame, jobOfBytes, jobOfRelease, jobOfTick}
 
 -- A packet that is read: what is judged of it is what is done.
 pub receive-job : (p : Plain) (room : ℕ) (bytes : List ℕ) (h : Header) (o : Order) → 48 ≤ room → readOf bytes ≡ Read h
     → judged (p .registers) (p .core .mode) h (messageOf bytes) ≡ o
-    → job p (event room (receive bytes)) ≡ ordering o (h .source) (drop 2 (messageOf bytes)) p
-unfolding job doing receiving reading
+    → job p (event room (receive bytes)) ≡ jobOfOrder o (h .source) (drop 2 (messageOf bytes)) p
+unfolding job jobOfDeed jobOfBytes jobOfFrame
 receive-job p room bytes h o k read judge = rw (le-ltb room 48 k, read, judge)
 
 -- An edge of contacts 0 to 3.
-pub press-job : (p : Plain) (room contact : ℕ) → 48 ≤ room → contact ≤ 3 → job p (event room (press contact)) ≡ pressing contact p
-unfolding job doing known
+pub press-job : (p : Plain) (room contact : ℕ) → 48 ≤ room → contact ≤ 3 → job p (event room (press contact)) ≡ jobOfPress contact p
+unfolding job jobOfDeed known
 press-job p room contact h k = rw (le-ltb room 48 h, le-ltb 3 contact k)
 
-pub release-job : (p : Plain) (room contact : ℕ) → 48 ≤ room → contact ≤ 3 → job p (event room (release contact)) ≡ releasing contact p
-unfolding job doing known
+pub release-job : (p : Plain) (room contact : ℕ) → 48 ≤ room → contact ≤ 3 → job p (event room (release contact)) ≡ jobOfRelease contact p
+unfolding job jobOfDeed known
 release-job p room contact h k = rw (le-ltb room 48 h, le-ltb 3 contact k)
 
 -- A tick.
-pub tick-job : (p : Plain) (room : ℕ) → 48 ≤ room → job p (event room tick) ≡ ticking p
-unfolding job doing
+pub tick-job : (p : Plain) (room : ℕ) → 48 ≤ room → job p (event room tick) ≡ jobOfTick p
+unfolding job jobOfDeed
 tick-job p room h = rw (le-ltb room 48 h)

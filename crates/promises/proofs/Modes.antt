@@ -13,7 +13,7 @@ use Rattle.vault.specs.Product
 use Rattle.vault.specs.Vault.{inSetup}
 use Rattle.vault.specs.declared.Mode.{Mode}
 use Rattle.vault.specs.declared.Mode.the-variants.{Normal, Setup, Factory}
-use Rattle.paddle.specs.Paddle.{ending, fresh, gesture, gestureUp, goesUp, moved}
+use Rattle.paddle.specs.Paddle.{ending, freshPaddle, gesture, gestureUp, goesUp, withContact}
 use Rattle.paddle.specs.declared.Contact.{Contact}
 use Rattle.paddle.specs.declared.Gesture.{Gesture}
 use Rattle.paddle.specs.declared.Gesture.the-variants.{Nothing, Taps, Hold, Release}
@@ -24,7 +24,7 @@ use Rattle.acts.specs.declared.Core.{Core}
 use Rattle.acts.proofs.Laws.{gesture-leads}
 use Rattle.switch.specs.Switch.{Plain}
 use Rattle.switch.specs.Paddles.{Moment, after, turned, turns}
-use Rattle.switch.specs.Events.{begun, finished, signalled, signalledBy, ticking}
+use Rattle.switch.specs.Events.{begun, finished, signalled, signalledBy, jobOfTick}
 use Rattle.switch.specs.Respond.{respond}
 use Rattle.promises.specs.Modes.{FindsModes, modeFor}
 use Rattle.promises.proofs.Jobs.{tick-job}
@@ -54,14 +54,14 @@ take-all [] = refl
 take-all (p ∷ ps) = ap (λ (qs : List Paddle). p ∷ qs) (take-all ps)
 
 -- After them all.
-pub tick-mode : (s : Switch Plain) → settled (s .password) (ticking (s .plain)) .next .plain .core .mode ≡ modeFor (s .plain .core .mode) (s .plain .paddles) (length (s .plain .paddles))
-unfolding ticking finished settled after saved aged
+pub tick-mode : (s : Switch Plain) → settled (s .password) (jobOfTick (s .plain)) .next .plain .core .mode ≡ modeFor (s .plain .core .mode) (s .plain .paddles) (length (s .plain .paddles))
+unfolding jobOfTick finished settled after saved aged
 tick-mode s =
     let m = begun (s .plain) (aged (s .plain .core)) in
     signalled-mode _ _ ∙ ap (λ (ps : List Paddle). turns 0 ps m .core .mode) (sym (take-all (s .plain .paddles))) ∙ turns-mode 0 (length (s .plain .paddles)) (s .plain .paddles) m
 
 pub finds-modes : FindsModes
-unfolding Product.respond aged
+unfolding Product.responseOf aged
 finds-modes = record {
   found = λ s i. turns-mode 0 i (s .plain .paddles) (begun (s .plain) (aged (s .plain .core)));
   left = λ s room enough. rw (tick-job (s .plain) room enough) (tick-mode s);
@@ -94,7 +94,7 @@ pub record Opened (mode : Mode) (ps : List Paddle) (i : ℕ) : Type 0 where
   pub paddle : ℕ
   pub earlier : paddle < i
   pub there : paddle < length ps
-  pub five : gesture (getD ps paddle fresh) ≡ Taps 5
+  pub five : gesture (getD ps paddle freshPaddle) ≡ Taps 5
   pub finds : modeFor mode ps paddle ≡ Normal
 
 pub opened : (mode : Mode) (ps : List Paddle) (i : ℕ) → inSetup mode ≡ false → inSetup (modeFor mode ps i) ≡ true → Opened mode ps i
@@ -118,7 +118,7 @@ pub no-taps : (c : Contact) (p : Paddle) (n : ℕ) → gestureUp c p ≡ Taps n 
 unfolding gestureUp ending
 no-taps c p n =
     let Other : Gesture → Type 0 = λ g. g ≡ Taps n → ⊥ in
-    both Other (goesUp c p) (both Other (eqb (moved c false p .hold) 0) (λ e. let z : _≡_ {A = ℕ} 0 1 = cc in omega arith) (λ e. let z : _≡_ {A = ℕ} 0 1 = cc in omega arith))
+    both Other (goesUp c p) (both Other (eqb (withContact c false p .hold) 0) (λ e. let z : _≡_ {A = ℕ} 0 1 = cc in omega arith) (λ e. let z : _≡_ {A = ℕ} 0 1 = cc in omega arith))
     (λ e. let z : _≡_ {A = ℕ} 0 1 = cc in omega arith)
 
 -- .. and leaves every mode.
@@ -132,4 +132,4 @@ pub up-leads : (mode : Mode) (contact : Contact) (p : Paddle) → leads mode (ge
 unfolding gestureUp ending
 up-leads mode contact p =
     both (λ (g : Gesture). leads mode g ≡ mode) (goesUp contact p)
-    (both (λ (g : Gesture). leads mode g ≡ mode) (eqb (moved contact false p .hold) 0) (let-go-leads mode .0) (let-go-leads mode .1)) (let-go-leads mode .1)
+    (both (λ (g : Gesture). leads mode g ≡ mode) (eqb (withContact contact false p .hold) 0) (let-go-leads mode .0) (let-go-leads mode .1)) (let-go-leads mode .1)

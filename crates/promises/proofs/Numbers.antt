@@ -23,7 +23,7 @@ use Rattle.packet.specs.declared.Frame.{Frame}
 use Rattle.packet.specs.declared.Frame.the-variants as frame
 use Rattle.packet.specs.declared.Header.{Header}
 use Rattle.packet.proofs.Laws as packet
-use Rattle.paddle.specs.Paddle.{fresh}
+use Rattle.paddle.specs.Paddle.{freshPaddle}
 use Rattle.paddle.proofs.Laws.{pressed-again, released-again}
 use Rattle.judge.specs.Judge.{judged}
 use Rattle.judge.specs.declared.Order.{Order}
@@ -41,13 +41,13 @@ use Rattle.registers.specs.Write.{applied, changeAt, changeOf}
 use Rattle.registers.specs.declared.Seen.the-variants as seen
 use Rattle.switch.specs.Switch.{Deed, Event, Plain, Shown, answerOf, answerWith, event, plain, press, receive, release, restart, shown, tick}
 use Rattle.switch.specs.Paddles.{after, followed, over, turned}
-use Rattle.switch.specs.Events.{Asked, answering, doing, finished, garbled, gestureAt, getting, job, kindOf, known, obeying, opening, ordering, paddleAt, paddleOf, pressedAt, pressing, reading, receiving, refused, releasedAt, releasing, restarting, signalledBy, ticking}
+use Rattle.switch.specs.Events.{SwitchJob, outcomeOf, jobOfDeed, finished, garbled, gestureAt, jobOfGet, job, kindOf, known, jobOfAct, jobOfGuess, jobOfOrder, paddleAt, paddleOf, pressedAt, jobOfPress, jobOfFrame, jobOfBytes, refused, releasedAt, jobOfRelease, jobOfRestart, signalledBy, jobOfTick}
 use Rattle.switch.specs.Respond.{noAnswer, respond, startAnswer, startedFrom, wallSwitch}
 use Rattle.promises.proofs.Jobs.{press-job, release-job}
-use Rattle.promises.specs.Numbers.{AlreadySo, DeedRefused, downAt, Exactly, FourteenExactly, Idle, Numbers, OnlyThese, PacketRefused, RefusalsChangeNothing, Row, StartExactly, Or0Or2, WrongGuess, blackened, done, garbled as isGarbled, no-room, not-accepted, numberAt, numberOfStart, refused as row-refused, reserved-bit, too-long, too-short, wrong-length, wrong-password, wrong-sum}
+use Rattle.promises.specs.Numbers.{AlreadySo, DeedRefused, downAt, Exactly, FourteenExactly, Idle, Numbers, OnlyThese, PacketRefused, RefusalsChangeNothing, Row, StartExactly, Or0Or2, WrongGuess, blackened, done, isGarbled, no-room, not-accepted, numberAt, numberOfStart, refused as row-refused, reserved-bit, too-long, too-short, wrong-length, wrong-password, wrong-sum}
 
 -- The number that a job comes to.
-abbrev numberIn : Password → Asked → ℕ
+abbrev numberIn : Password → SwitchJob → ℕ
 numberIn w j = settled w j .shown .answer .number
 
 -- A wrong guess does not match.
@@ -58,15 +58,15 @@ mismatch w guess ne = go (matches w guess) refl
     go true e = absurd (ne (matches-equal w guess e))
     go false e = e
 
-wrong-guess : (w guess : Password) (p : Plain) → matches w guess ≡ false → numberIn w (opening guess p) ≡ 14
-unfolding opening refused answerOf answerWith settled
+wrong-guess : (w guess : Password) (p : Plain) → matches w guess ≡ false → numberIn w (jobOfGuess guess p) ≡ 14
+unfolding jobOfGuess refused answerOf answerWith settled
 wrong-guess w guess p m =
-    ap (λ (b : Bool). (if b then answering (opened (p .core)) [] 0 reply.Silence p seen.Hidden else refused 14 p) .shown .answer .number) m
+    ap (λ (b : Bool). (if b then outcomeOf (opened (p .core)) [] 0 reply.Silence p seen.Hidden else refused 14 p) .shown .answer .number) m
 
 module _ (s : Switch Plain) where
   -- A row of a packet that holds is what is answered.
-  packet-only : (bytes : List ℕ) (n : ℕ) → PacketRefused s bytes n → numberIn (s .password) (receiving bytes (s .plain)) ≡ n
-  unfolding receiving reading ordering garbled refused opening answerOf answerWith settled
+  packet-only : (bytes : List ℕ) (n : ℕ) → PacketRefused s bytes n → numberIn (s .password) (jobOfBytes bytes (s .plain)) ≡ n
+  unfolding jobOfBytes jobOfFrame jobOfOrder garbled refused jobOfGuess answerOf answerWith settled
   packet-only bytes n (too-short g) = rw (packet.only frame.Short bytes g)
   packet-only bytes n (too-long g) = rw (packet.only frame.Long bytes g)
   packet-only bytes n (wrong-length g) = rw (packet.only frame.Length bytes g)
@@ -94,15 +94,15 @@ module _ (s : Switch Plain) where
 
   module _ (bytes : List ℕ) where
     order-found : (h : Header) → Sound bytes h → (o : Order) → judged (s .plain .registers) (s .plain .core .mode) h (messageOf bytes) ≡ o
-        → (source : ℕ) (values : List ℕ) → Found (receive bytes) (numberIn (s .password) (ordering o source values (s .plain)))
-    unfolding Found ordering refused opening obeying getting answering answerOf answerWith settled
+        → (source : ℕ) (values : List ℕ) → Found (receive bytes) (numberIn (s .password) (jobOfOrder o source values (s .plain)))
+    unfolding Found jobOfOrder refused jobOfGuess jobOfAct jobOfGet outcomeOf answerOf answerWith settled
     order-found h so (order.Refused n) e source values = inr (not-accepted h n so (judge.asks (order.Refused n) _ _ h _ e))
     order-found h so (order.Open guess) e source values =
         cases (λ (o : Outcome Plain Shown). Found (receive bytes) (o .shown .answer .number)) (matches (s .password) guess) (λ m. inl refl)
         (λ m. inr (wrong-password guess (record { header = h; sound = so; accepted = judge.asks (order.Open guess) _ _ h _ e }) (λ same. true≢false (sym (equal-matches (s .password) guess same) ∙ m))))
     order-found h so order.Close e source values = inl refl
     order-found h so (order.Get first count) e source values =
-        both (λ (j : Asked). Found (receive bytes) (numberIn (s .password) j)) (inSetup (s .plain .core .mode)) (inl refl) (inl refl)
+        both (λ (j : SwitchJob). Found (receive bytes) (numberIn (s .password) j)) (inSetup (s .plain .core .mode)) (inl refl) (inl refl)
     order-found h so (order.Set first) e source values = inl refl
     order-found h so (order.Activate i) e source values = inl refl
     order-found h so (order.Deactivate i) e source values = inl refl
@@ -112,8 +112,8 @@ module _ (s : Switch Plain) where
     order-found h so order.Report e source values = inl refl
     order-found h so (order.Store i) e source values = inl refl
 
-    frame-found : (f : Frame) → readOf bytes ≡ f → Found (receive bytes) (numberIn (s .password) (reading f (messageOf bytes) (s .plain)))
-    unfolding Found reading garbled answerOf answerWith settled
+    frame-found : (f : Frame) → readOf bytes ≡ f → Found (receive bytes) (numberIn (s .password) (jobOfFrame f (messageOf bytes) (s .plain)))
+    unfolding Found jobOfFrame garbled answerOf answerWith settled
     frame-found (frame.Read h) e = order-found h (packet.sound bytes h e) _ refl (h .source) (drop 2 (messageOf bytes))
     frame-found frame.Short e = inr (too-short (packet.exactly .answer frame.Short bytes .0 e))
     frame-found frame.Long e = inr (too-long (packet.exactly .answer frame.Long bytes .0 e))
@@ -122,18 +122,18 @@ module _ (s : Switch Plain) where
     frame-found frame.Reserved e = inr (reserved-bit (packet.exactly .answer frame.Reserved bytes .0 e))
 
   -- The same of every deed.
-  deed-found : (d : Deed) → Found d (numberIn (s .password) (doing d (s .plain)))
-  unfolding Found doing known pressing releasing ticking restarting receiving finished refused answerOf answerWith settled
+  deed-found : (d : Deed) → Found d (numberIn (s .password) (jobOfDeed d (s .plain)))
+  unfolding Found jobOfDeed known jobOfPress jobOfRelease jobOfTick jobOfRestart jobOfBytes finished refused answerOf answerWith settled
   deed-found (press contact) =
-      cases (λ (j : Asked). Found (press contact) (numberIn (s .password) j)) (ltb 3 contact) (λ e. inr (refl, ltb-true 3 contact e)) (λ e. inl refl)
+      cases (λ (j : SwitchJob). Found (press contact) (numberIn (s .password) j)) (ltb 3 contact) (λ e. inr (refl, ltb-true 3 contact e)) (λ e. inl refl)
   deed-found (release contact) =
-      cases (λ (j : Asked). Found (release contact) (numberIn (s .password) j)) (ltb 3 contact) (λ e. inr (refl, ltb-true 3 contact e)) (λ e. inl refl)
+      cases (λ (j : SwitchJob). Found (release contact) (numberIn (s .password) j)) (ltb 3 contact) (λ e. inr (refl, ltb-true 3 contact e)) (λ e. inl refl)
   deed-found tick = inl refl
   deed-found (receive bytes) = frame-found bytes (readOf bytes) refl
   deed-found restart = inl refl
 
-  deed-only : (d : Deed) (n : ℕ) → DeedRefused s d n → numberIn (s .password) (doing d (s .plain)) ≡ n
-  unfolding doing known refused answerOf answerWith settled
+  deed-only : (d : Deed) (n : ℕ) → DeedRefused s d n → numberIn (s .password) (jobOfDeed d (s .plain)) ≡ n
+  unfolding jobOfDeed known refused answerOf answerWith settled
   deed-only (press contact) n r = rw (lt-ltb 3 contact (r .1)) (sym (r .0))
   deed-only (release contact) n r = rw (lt-ltb 3 contact (r .1)) (sym (r .0))
   deed-only tick n r = absurd r
@@ -149,22 +149,22 @@ module _ (s : Switch Plain) where
 
   -- Every answer has its row, and a row that holds is the answer.
   row : (e : Event) → Row s e (numberAt s e)
-  unfolding Product.respond job refused answerOf answerWith settled Found
+  unfolding Product.responseOf job refused answerOf answerWith settled Found
   row e =
       let w = s .password in
       let d = e .deed in
-      cases (λ (j : Asked). Row s e (numberIn w j)) (ltb (e .room) 48) (λ h. no-room (ltb-true _ _ h))
+      cases (λ (j : SwitchJob). Row s e (numberIn w j)) (ltb (e .room) 48) (λ h. no-room (ltb-true _ _ h))
       (λ h.
       let room : 48 ≤ e .room = ltb-false _ _ h in
       ⊎-elim
       (λ z. subst (λ (n : ℕ). Row s e n) (sym z) (done room (λ n r. deed-above d n r (sym (deed-only d n r) ∙ z))))
-      (λ r. row-refused (numberIn w (doing d (s .plain))) room r)
+      (λ r. row-refused (numberIn w (jobOfDeed d (s .plain))) room r)
       (deed-found d))
 
-  by-room : (e : Event) (b : Bool) → ltb (e .room) 48 ≡ b → numberAt s e ≡ (if b then 2 else numberIn (s .password) (doing (e .deed) (s .plain)))
-  unfolding Product.respond job refused answerOf answerWith settled
-  by-room e true h = ap (λ (b : Bool). numberIn (s .password) (if b then finally (refused 2 (s .plain)) nothing else doing (e .deed) (s .plain))) h
-  by-room e false h = ap (λ (b : Bool). numberIn (s .password) (if b then finally (refused 2 (s .plain)) nothing else doing (e .deed) (s .plain))) h
+  by-room : (e : Event) (b : Bool) → ltb (e .room) 48 ≡ b → numberAt s e ≡ (if b then 2 else numberIn (s .password) (jobOfDeed (e .deed) (s .plain)))
+  unfolding Product.responseOf job refused answerOf answerWith settled
+  by-room e true h = ap (λ (b : Bool). numberIn (s .password) (if b then finally (refused 2 (s .plain)) nothing else jobOfDeed (e .deed) (s .plain))) h
+  by-room e false h = ap (λ (b : Bool). numberIn (s .password) (if b then finally (refused 2 (s .plain)) nothing else jobOfDeed (e .deed) (s .plain))) h
 
   row-only : (e : Event) (n : ℕ) → Row s e n → numberAt s e ≡ n
   unfolding Found
@@ -253,7 +253,7 @@ record Quiet (s : Switch Plain) (a : Answered Plain Shown) : Type 0 where
   sent : a .shown .sent ≡ []
   answer : a .shown .answer ≡ answerOf (a .shown .answer .number) [] (a .next .plain)
 
-abbrev Quietly : Switch Plain → Asked → Type 0
+abbrev Quietly : Switch Plain → SwitchJob → Type 0
 Quietly s j = (numberIn (s .password) j ≡ 0 → ⊥) → Quiet s (settled (s .password) j)
 
 module _ (s : Switch Plain) where
@@ -265,19 +265,19 @@ module _ (s : Switch Plain) where
   unfolding garbled answerOf answerWith settled changed became
   garbled-quiet n e = λ _. record { next = rw e; sent = refl; answer = refl }
 
-  open-quiet : (guess : Password) → Quietly s (opening guess (s .plain))
-  unfolding opening settled answering answerOf answerWith changed became
+  open-quiet : (guess : Password) → Quietly s (jobOfGuess guess (s .plain))
+  unfolding jobOfGuess settled outcomeOf answerOf answerWith changed became
   open-quiet guess =
       cases (λ (o : Outcome Plain Shown). (o .shown .answer .number ≡ 0 → ⊥) → Quiet s (answered o (s .password))) (matches (s .password) guess)
       (λ m ne. absurd (ne refl)) (λ m. refused-quiet 14 refl)
 
-  get-quiet : (first count source : ℕ) → Quietly s (getting first count source (s .plain))
-  unfolding getting settled answering answerOf answerWith
+  get-quiet : (first count source : ℕ) → Quietly s (jobOfGet first count source (s .plain))
+  unfolding jobOfGet settled outcomeOf answerOf answerWith
   get-quiet first count source = both (Quietly s) (inSetup (s .plain .core .mode)) (λ ne. absurd (ne refl)) (λ ne. absurd (ne refl))
 
   order-quiet : (h : Header) (m : List ℕ) (o : Order) → judged (s .plain .registers) (s .plain .core .mode) h m ≡ o
-      → (source : ℕ) (values : List ℕ) → Quietly s (ordering o source values (s .plain))
-  unfolding ordering obeying settled answering answerOf answerWith
+      → (source : ℕ) (values : List ℕ) → Quietly s (jobOfOrder o source values (s .plain))
+  unfolding jobOfOrder jobOfAct settled outcomeOf answerOf answerWith
   order-quiet h m (order.Refused n) e source values =
       let i = judge.only-these n _ _ h m (judge.asks (order.Refused n) _ _ h m e) in
       refused-quiet n (rw (le-leb 4 n (omega arith), lt-leb n 8 (omega arith)))
@@ -293,8 +293,8 @@ module _ (s : Switch Plain) where
   order-quiet h m order.Report e source values = λ ne. absurd (ne refl)
   order-quiet h m (order.Store i) e source values = λ ne. absurd (ne refl)
 
-  frame-quiet : (f : Frame) (m : List ℕ) → Quietly s (reading f m (s .plain))
-  unfolding reading
+  frame-quiet : (f : Frame) (m : List ℕ) → Quietly s (jobOfFrame f m (s .plain))
+  unfolding jobOfFrame
   frame-quiet (frame.Read h) m = order-quiet h m (judged (s .plain .registers) (s .plain .core .mode) h m) refl (h .source) (drop 2 m)
   frame-quiet frame.Short m = garbled-quiet 4 refl
   frame-quiet frame.Long m = garbled-quiet 5 refl
@@ -302,8 +302,8 @@ module _ (s : Switch Plain) where
   frame-quiet frame.Sum m = garbled-quiet 7 refl
   frame-quiet frame.Reserved m = garbled-quiet 8 refl
 
-  deed-quiet : (d : Deed) → Quietly s (doing d (s .plain))
-  unfolding doing known pressing releasing ticking restarting receiving finished answerOf answerWith settled
+  deed-quiet : (d : Deed) → Quietly s (jobOfDeed d (s .plain))
+  unfolding jobOfDeed known jobOfPress jobOfRelease jobOfTick jobOfRestart jobOfBytes finished answerOf answerWith settled
   deed-quiet (press contact) = both (Quietly s) (ltb 3 contact) (refused-quiet 3 refl) (λ ne. absurd (ne refl))
   deed-quiet (release contact) = both (Quietly s) (ltb 3 contact) (refused-quiet 3 refl) (λ ne. absurd (ne refl))
   deed-quiet tick = λ ne. absurd (ne refl)
@@ -315,7 +315,7 @@ module _ (s : Switch Plain) where
   job-quiet e = both (Quietly s) (ltb (e .room) 48) (refused-quiet 2 refl) (deed-quiet (e .deed))
 
 refusals : RefusalsChangeNothing
-unfolding Product.respond placed
+unfolding Product.responseOf placed
 refusals s e ne =
     let q = job-quiet s e ne in
     record {
@@ -328,21 +328,21 @@ refusals s e ne =
 -- ---- edges that find their contact already so
 
 -- What alters nothing, said of a job.
-abbrev nothingDone : Plain → Asked
+abbrev nothingDone : Plain → SwitchJob
 nothingDone p = finally (outcome (shown 0 [] p) p) nothing
 
-pressing-idle : (contact : ℕ) (s : Switch Plain) → downAt contact s ≡ true → pressing contact (s .plain) ≡ nothingDone (s .plain)
-unfolding pressing finished pressedAt signalledBy
+pressing-idle : (contact : ℕ) (s : Switch Plain) → downAt contact s ≡ true → jobOfPress contact (s .plain) ≡ nothingDone (s .plain)
+unfolding jobOfPress finished pressedAt signalledBy
 pressing-idle contact s d =
     let i = paddleOf contact in
-    rw (pressed-again (kindOf contact) (paddleAt contact (s .plain .paddles)) d, set-getD (s .plain .paddles) i fresh)
+    rw (pressed-again (kindOf contact) (paddleAt contact (s .plain .paddles)) d, set-getD (s .plain .paddles) i freshPaddle)
 
-releasing-idle : (contact : ℕ) (s : Switch Plain) → downAt contact s ≡ false → releasing contact (s .plain) ≡ nothingDone (s .plain)
-unfolding releasing finished releasedAt gestureAt turned after followed over applied changeOf changeAt unwritten signalledBy
+releasing-idle : (contact : ℕ) (s : Switch Plain) → downAt contact s ≡ false → jobOfRelease contact (s .plain) ≡ nothingDone (s .plain)
+unfolding jobOfRelease finished releasedAt gestureAt turned after followed over applied changeOf changeAt unwritten signalledBy
 releasing-idle contact s d =
     let i = paddleOf contact in
     let up = released-again (kindOf contact) (paddleAt contact (s .plain .paddles)) d in
-    rw (up .0, up .1, set-getD (s .plain .paddles) i fresh, nothing-acts (s .plain .registers) i (s .plain .core), announces (s .plain .registers) i (percentOf (s .plain .core .dimmer .level)) .nothing (s .plain .core .mode))
+    rw (up .0, up .1, set-getD (s .plain .paddles) i freshPaddle, nothing-acts (s .plain .registers) i (s .plain .core), announces (s .plain .registers) i (percentOf (s .plain .core .dimmer .level)) .nothing (s .plain .core .mode))
 
 idle : (s : Switch Plain) (e : Event) → job (s .plain) e ≡ nothingDone (s .plain) → Idle s e
 unfolding answerOf answerWith changed became

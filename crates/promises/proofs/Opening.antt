@@ -38,7 +38,7 @@ use Rattle.acts.proofs.Laws.{order-leads}
 use Rattle.post.specs.declared.Reply.the-variants as reply
 use Rattle.switch.specs.Switch.{Deed, Plain, Shown, answerOf, answerWith, event, press, receive, release, restart, tick}
 use Rattle.switch.specs.Paddles.{Moment, turned}
-use Rattle.switch.specs.Events.{Asked, answering, begun, doing, finished, garbled, gestureAt, getting, job, known, obeyed, obeying, opening as opens, ordering, paddleOf, pressing, reading, receiving, refused, releasing, restarting, signalled, ticking, woken}
+use Rattle.switch.specs.Events.{SwitchJob, outcomeOf, begun, jobOfDeed, finished, garbled, gestureAt, jobOfGet, job, known, plainAfter, jobOfAct, jobOfGuess, jobOfOrder, paddleOf, jobOfPress, jobOfFrame, jobOfBytes, refused, jobOfRelease, jobOfRestart, signalled, jobOfTick, woken}
 use Rattle.switch.specs.Respond.{respond, wallSwitch}
 use Rattle.promises.specs.Demand3.{Outside}
 use Rattle.promises.specs.Numbers.{numberAt}
@@ -54,7 +54,7 @@ module _ (s : Switch Plain) (out : Outside s) where
   abbrev Leaves : Deed → Mode → Type 0
   Leaves d mode = inSetup mode ≡ true → So d
 
-  abbrev Leads : Deed → Asked → Type 0
+  abbrev Leads : Deed → SwitchJob → Type 0
   Leads d j = Leaves d (settled (s .password) j .next .plain .core .mode)
 
   same-mode : (d : Deed) (mode : Mode) → mode ≡ s .plain .core .mode → Leaves d mode
@@ -64,28 +64,28 @@ module _ (s : Switch Plain) (out : Outside s) where
   unfolding finished settled
   finished-leads d m paddles l to = l (sym (ap inSetup (signalled-mode (m .sent) (m .core))) ∙ to)
 
-  release-leads : (contact : ℕ) → Leads (release contact) (releasing contact (s .plain))
-  unfolding releasing gestureAt
+  release-leads : (contact : ℕ) → Leads (release contact) (jobOfRelease contact (s .plain))
+  unfolding jobOfRelease gestureAt
   release-leads contact =
       let m = begun (s .plain) (s .plain .core) in
       let g = gestureAt contact (s .plain .paddles) in
       finished-leads (release contact) (turned (paddleOf contact) g m) _
       (λ to. absurd (no-taps _ _ 5 (leads-open (s .plain .core .mode) g out (sym (ap inSetup (turned-mode (paddleOf contact) g m)) ∙ to) .1)))
 
-  tick-leads : Leads tick (ticking (s .plain))
+  tick-leads : Leads tick (jobOfTick (s .plain))
   tick-leads to =
       let f = opened-by (s .plain .core .mode) (s .plain .paddles) (length (s .plain .paddles)) out (sym (ap inSetup (tick-mode s)) ∙ to) in
       inr (record { ticked = refl; paddle = f .paddle; closes = record { there = f .there; taps = f .five; finds = f .finds } })
 
   module _ (bytes : List ℕ) where
-    obey-leads : (o : Order) (source : ℕ) (values : List ℕ) → Leaves (receive bytes) (Orders.leads o (s .plain .core .mode))
-        → Leads (receive bytes) (obeying o source values (s .plain))
-    unfolding obeying answering obeyed signalled settled
+    obey-leads : (o : Order) (source : ℕ) (values : List ℕ) → Leaves (receive bytes) (Orders.orderLeads o (s .plain .core .mode))
+        → Leads (receive bytes) (jobOfAct o source values (s .plain))
+    unfolding jobOfAct outcomeOf plainAfter signalled settled
     obey-leads o source values l to = l (sym (ap inSetup (order-leads (s .plain .registers) o (s .plain .core))) ∙ to)
 
     open-leads : (h : Header) (guess : Password) → Sound bytes h
-        → judged (s .plain .registers) (s .plain .core .mode) h (messageOf bytes) ≡ order.Open guess → Leads (receive bytes) (opens guess (s .plain))
-    unfolding opens refused settled
+        → judged (s .plain .registers) (s .plain .core .mode) h (messageOf bytes) ≡ order.Open guess → Leads (receive bytes) (jobOfGuess guess (s .plain))
+    unfolding jobOfGuess refused settled
     open-leads h guess so e =
         cases (λ (o : Outcome Plain Shown). Leaves (receive bytes) (o .next .core .mode)) (matches (s .password) guess)
         (λ m to. inl (record {
@@ -94,16 +94,16 @@ module _ (s : Switch Plain) (out : Outside s) where
         }))
         (λ m. same-mode (receive bytes) _ refl)
 
-    get-leads : (first count source : ℕ) → Leads (receive bytes) (getting first count source (s .plain))
-    unfolding getting answering obeyed signalled settled Orders.leads
+    get-leads : (first count source : ℕ) → Leads (receive bytes) (jobOfGet first count source (s .plain))
+    unfolding jobOfGet outcomeOf plainAfter signalled settled Orders.orderLeads
     get-leads first count source =
         let stays : Leaves (receive bytes) (performed (s .plain .registers) (order.Get first count) (s .plain .core) .core .mode) =
         same-mode (receive bytes) _ (order-leads (s .plain .registers) (order.Get first count) (s .plain .core)) in
         both (Leads (receive bytes)) (inSetup (s .plain .core .mode)) stays stays
 
     order-opens : (h : Header) (o : Order) → Sound bytes h → judged (s .plain .registers) (s .plain .core .mode) h (messageOf bytes) ≡ o
-        → (source : ℕ) (values : List ℕ) → Leads (receive bytes) (ordering o source values (s .plain))
-    unfolding ordering refused settled Orders.leads inSetup
+        → (source : ℕ) (values : List ℕ) → Leads (receive bytes) (jobOfOrder o source values (s .plain))
+    unfolding jobOfOrder refused settled Orders.orderLeads inSetup
     order-opens h (order.Refused n) so e source values = same-mode (receive bytes) _ refl
     order-opens h (order.Open guess) so e source values = open-leads h guess so e
     order-opens h order.Close so e source values = obey-leads order.Close source values (λ to. absurd (false≢true to))
@@ -117,8 +117,8 @@ module _ (s : Switch Plain) (out : Outside s) where
     order-opens h order.Report so e source values = obey-leads order.Report source values (same-mode (receive bytes) _ refl)
     order-opens h (order.Store i) so e source values = obey-leads (order.Store i) source values (same-mode (receive bytes) _ refl)
 
-    frame-leads : (f : Frame) → readOf bytes ≡ f → Leads (receive bytes) (reading f (messageOf bytes) (s .plain))
-    unfolding reading garbled signalled settled
+    frame-leads : (f : Frame) → readOf bytes ≡ f → Leads (receive bytes) (jobOfFrame f (messageOf bytes) (s .plain))
+    unfolding jobOfFrame garbled signalled settled
     frame-leads (frame.Read h) e = order-opens h _ (packet.sound bytes h e) refl (h .source) (drop 2 (messageOf bytes))
     frame-leads frame.Short e = same-mode (receive bytes) _ refl
     frame-leads frame.Long e = same-mode (receive bytes) _ refl
@@ -126,8 +126,8 @@ module _ (s : Switch Plain) (out : Outside s) where
     frame-leads frame.Sum e = same-mode (receive bytes) _ refl
     frame-leads frame.Reserved e = same-mode (receive bytes) _ refl
 
-  deed-leads : (d : Deed) → Leads d (doing d (s .plain))
-  unfolding doing known pressing restarting woken started receiving refused settled inSetup
+  deed-leads : (d : Deed) → Leads d (jobOfDeed d (s .plain))
+  unfolding jobOfDeed known jobOfPress jobOfRestart woken started jobOfBytes refused settled inSetup
   deed-leads (press contact) =
       both (Leads (press contact)) (ltb 3 contact) (same-mode (press contact) _ refl) (finished-leads (press contact) (begun (s .plain) (s .plain .core)) _ (same-mode (press contact) _ refl))
   deed-leads (release contact) = both (Leads (release contact)) (ltb 3 contact) (same-mode (release contact) _ refl) (release-leads contact)
@@ -136,34 +136,34 @@ module _ (s : Switch Plain) (out : Outside s) where
   deed-leads restart = λ to. absurd (false≢true to)
 
 only-so : OnlySo
-unfolding Product.respond job refused settled
+unfolding Product.responseOf job refused settled
 only-so s e out =
-    cases (λ (j : Asked). inSetup (settled (s .password) j .next .plain .core .mode) ≡ true → (48 ≤ e .room) × So s out (e .deed)) (ltb (e .room) 48)
+    cases (λ (j : SwitchJob). inSetup (settled (s .password) j .next .plain .core .mode) ≡ true → (48 ≤ e .room) × So s out (e .deed)) (ltb (e .room) 48)
     (λ h to. absurd (true≢false (sym to ∙ out)))
     (λ h to. (ltb-false _ _ h, deed-leads s out (e .deed) to))
 
 -- A right Start Setup opens.
 module _ (s : Switch Plain) (room : ℕ) (d : Deed) (enough : 48 ≤ room) (right : ByPassword s d) where
-  right-job : job (s .plain) (event room d) ≡ opens (right .start .guess) (s .plain)
-  unfolding ordering
+  right-job : job (s .plain) (event room d) ≡ jobOfGuess (right .start .guess) (s .plain)
+  unfolding jobOfOrder
   right-job =
       let g = right .start in
       ap (λ (d : Deed). job (s .plain) (event room d)) (g .received)
       ∙ receive-job (s .plain) room (g .bytes) (g .asks .header) (order.Open (g .guess)) enough (packet.only (frame.Read (g .asks .header)) (g .bytes) (g .asks .sound))
       (judge.only (s .plain .registers) (s .plain .core .mode) (g .asks .header) (order.Open (g .guess)) (messageOf (g .bytes)) (g .asks .accepted))
 
-  right-answer : respond s (event room d) ≡ answered (answering (opened (s .plain .core)) [] 0 reply.Silence (s .plain) seen.Hidden) (s .password)
-  unfolding opens
+  right-answer : respond s (event room d) ≡ answered (outcomeOf (opened (s .plain .core)) [] 0 reply.Silence (s .plain) seen.Hidden) (s .password)
+  unfolding jobOfGuess
   right-answer =
-      respond-right wallSwitch s (event room d) (right .start .guess) (answering (opened (s .plain .core)) [] 0 reply.Silence (s .plain) seen.Hidden)
+      respond-right wallSwitch s (event room d) (right .start .guess) (outcomeOf (opened (s .plain .core)) [] 0 reply.Silence (s .plain) seen.Hidden)
       (refused 14 (s .plain)) right-job (equal-matches (s .password) (right .start .guess) (right .right))
 
   right-number : numberAt s (event room d) ≡ 0
-  unfolding answering answerOf answerWith
+  unfolding outcomeOf answerOf answerWith
   right-number = ap (λ a. a .shown .answer .number) right-answer
 
   right-mode : respond s (event room d) .next .plain .core .mode ≡ Setup
-  unfolding answering obeyed signalled opened entering
+  unfolding outcomeOf plainAfter signalled opened entering
   right-mode = ap (λ a. a .next .plain .core .mode) right-answer
 
 password-opens : PasswordOpens
@@ -201,6 +201,6 @@ pub opening : Opening
 opening = record {
   only = only-so;
   password = password-opens;
-  opens = λ s room h enough normal ranges direct network unit nonzero.
+  jobOfGuess = λ s room h enough normal ranges direct network unit nonzero.
       password-opens s (event room (receive (startSetup h (s .password)))) enough (own-password s h normal ranges direct network unit nonzero) .1;
 }

@@ -16,24 +16,24 @@ use Rattle.vault.specs.Job.{Switch}
 use Rattle.vault.specs.Vault.{inSetup}
 use Rattle.vault.specs.declared.Mode.{Mode}
 use Rattle.vault.specs.declared.Mode.the-variants.{Normal, Setup, Factory}
-use Rattle.paddle.specs.Paddle.{fresh, gesture}
+use Rattle.paddle.specs.Paddle.{freshPaddle, gesture}
 use Rattle.paddle.specs.declared.Gesture.{Gesture}
 use Rattle.paddle.specs.declared.Gesture.the-variants as gestures
 use Rattle.paddle.specs.declared.Paddle.{Paddle}
 use Rattle.paddle.proofs.Laws.{either}
 use Rattle.registers.specs.Places.{counterPlace, savedPlace}
-use Rattle.registers.specs.Write.{byteAfter, byteSet, counted, factoryAt, sets, within}
+use Rattle.registers.specs.Write.{byteAfter, byteSet, oneMore, factoryAt, sets, between}
 use Rattle.registers.specs.declared.places.Counter.the-variants.{Setups}
 use Rattle.registers.specs.declared.write.Write.{Write}
 use Rattle.registers.specs.declared.write.Write.the-variants as write
 use Rattle.acts.specs.Gestures.{leads, writes}
 use Rattle.switch.specs.Switch.{Deed, Plain, event, tick}
 use Rattle.switch.specs.Respond.{respond}
-use Rattle.promises.specs.Alters.{Writing, alone, byDeed, byPaddles, bySaving, byteAt, bytesAfter, writesOf}
+use Rattle.promises.specs.Alters.{Writing, bare, byDeed, byPaddles, bySaving, byteAt, bytesAfter, writesOf}
 use Rattle.promises.specs.Demand3.{Outside}
 use Rattle.promises.specs.Modes.{Closes, modeFor}
 use Rattle.promises.specs.Opening.{ByFiveTaps}
-use Rattle.promises.specs.Passing.{BothClose, EveryTick, FactoryExactly, FactoryFromOutside, OfTwoPaddles, PassesUnseen, SetsFactory, UnseenCounts, UnseenExactly, closed, countedBy, entries, opens, reset, resets, tickedByte}
+use Rattle.promises.specs.Passing.{BothClose, EveryTick, FactoryExactly, FactoryFromOutside, OfTwoPaddles, PassesUnseen, SetsFactory, UnseenCounts, UnseenExactly, closed, countedBy, openings, opens, reset, resets, tickedByte}
 use Rattle.promises.proofs.Alters.{alters}
 use Rattle.promises.proofs.Modes.{finds-modes, leads-open, not-outside, opened}
 use Rattle.promises.proofs.Opening.{opening}
@@ -62,8 +62,8 @@ factory-twice : (place old : ℕ) → factoryAt place (factoryAt place old) ≡ 
 unfolding factoryAt
 factory-twice place old =
     decided (eqb place 0x00) _ _ _ (λ a. decided (eqb place 0x01) _ _ _ (λ b. decided (eqb place 0x02) _ _ _ (λ c. decided (eqb place 0x03) _ _ _ (λ d.
-    decided (within 0x10 place 0x3F) _ _ _ (λ e. decided (within 0x7A place 0x81) _ _ _ (λ f. decided (eqb place 0x8B) _ _ _ (λ g. decided (eqb place 0x8D) _ _ _ (λ h.
-    decided (within 0x40 place 0xBF) _ _ _ (λ i. rw (a, b, c, d, e, f, g, h, i))))))))))
+    decided (between 0x10 place 0x3F) _ _ _ (λ e. decided (between 0x7A place 0x81) _ _ _ (λ f. decided (eqb place 0x8B) _ _ _ (λ g. decided (eqb place 0x8D) _ _ _ (λ h.
+    decided (between 0x40 place 0xBF) _ _ _ (λ i. rw (a, b, c, d, e, f, g, h, i))))))))))
 
 set-twice : (place old : ℕ) → byteAfter write.Factory [] place (byteAfter write.Factory [] place old) ≡ byteAfter write.Factory [] place old
 unfolding byteAfter byteSet
@@ -79,7 +79,7 @@ set-twice place old = go (sets write.Factory 0 place)
 counted-more : (m n old : ℕ) → countedBy (m + n) old ≡ countedBy n (countedBy m old)
 unfolding countedBy
 counted-more zero n old = let e : 0 + n ≡ n = omega arith in rw e
-counted-more (suc m) n old = let e : suc m + n ≡ suc (m + n) = omega arith in rw e (counted-more m n (counted old))
+counted-more (suc m) n old = let e : suc m + n ≡ suc (m + n) = omega arith in rw e (counted-more m n (oneMore old))
 
 entry-byte : (opening resetting : Bool) (old : ℕ)
     → byteAfter (if opening then write.Count Setups else if resetting then write.Factory else write.Nothing) [] (counterPlace Setups) old
@@ -90,15 +90,15 @@ entry-byte false true old = refl
 entry-byte false false old = refl
 
 entries-byte : (mode : Mode) (ps : List Paddle) (later : List Writing) (old : ℕ)
-    → bytesAfter (byPaddles mode ps ++ later) (counterPlace Setups) old ≡ bytesAfter later (counterPlace Setups) (countedBy (entries mode ps) old)
-unfolding byPaddles bytesAfter entries countedBy
+    → bytesAfter (byPaddles mode ps ++ later) (counterPlace Setups) old ≡ bytesAfter later (counterPlace Setups) (countedBy (openings mode ps) old)
+unfolding byPaddles bytesAfter openings countedBy
 entries-byte mode [] later old = refl
 entries-byte mode (p ∷ ps) later old =
     let g = gesture p in
     let first : byteAfter (writes mode g) [] (counterPlace Setups) old ≡ countedBy (if opens mode g then 1 else 0) old =
     ap (λ (w : Write). byteAfter w [] (counterPlace Setups) old) (writes-as mode g) ∙ entry-byte (opens mode g) (resets mode g) old in
     entries-byte (leads mode g) ps later (byteAfter (writes mode g) [] (counterPlace Setups) old)
-    ∙ ap (bytesAfter later (counterPlace Setups)) (ap (countedBy (entries (leads mode g) ps)) first ∙ sym (counted-more (if opens mode g then 1 else 0) (entries (leads mode g) ps) old))
+    ∙ ap (bytesAfter later (counterPlace Setups)) (ap (countedBy (openings (leads mode g) ps)) first ∙ sym (counted-more (if opens mode g then 1 else 0) (openings (leads mode g) ps) old))
 
 -- Elsewhere: the factory value where a gesture sets them.
 module _ (place : ℕ) (elsewhere : eqb place (counterPlace Setups) ≡ false) where
@@ -148,8 +148,8 @@ saving-byte save level place n = go (eqb save 0) (eqb place savedPlace)
     go false b = sym (either n (eqb place savedPlace))
 
 tick-byte : (mode : Mode) (ps : List Paddle) (save : ℕ) (level : Step) (place old : ℕ)
-    → bytesAfter (byPaddles mode ps ++ (alone (bySaving save level) ∷ [])) place old
-    ≡ (if eqb place (counterPlace Setups) then countedBy (entries mode ps) old
+    → bytesAfter (byPaddles mode ps ++ (bare (bySaving save level) ∷ [])) place old
+    ≡ (if eqb place (counterPlace Setups) then countedBy (openings mode ps) old
     else if eqb place savedPlace then (if eqb save 0 then percentOf level .0 else old)
     else if reset mode ps then byteAfter write.Factory [] place old
     else old)
@@ -157,7 +157,7 @@ unfolding bytesAfter counterPlace byteAfter sets
 tick-byte mode ps save level place old = at-counter (eqb place (counterPlace Setups)) refl
   where
     later : List Writing
-    later = alone (bySaving save level) ∷ []
+    later = bare (bySaving save level) ∷ []
 
     kept : ℕ
     kept = if reset mode ps then byteAfter write.Factory [] place old else old
@@ -170,10 +170,10 @@ tick-byte mode ps save level place old = at-counter (eqb place (counterPlace Set
 
     at-counter : (b : Bool) → eqb place (counterPlace Setups) ≡ b
         → bytesAfter (byPaddles mode ps ++ later) place old
-        ≡ (if b then countedBy (entries mode ps) old else if eqb place savedPlace then (if eqb save 0 then percentOf level .0 else old) else kept)
+        ≡ (if b then countedBy (openings mode ps) old else if eqb place savedPlace then (if eqb save 0 then percentOf level .0 else old) else kept)
     at-counter true e =
         let same : place ≡ counterPlace Setups = eqb-true place (counterPlace Setups) e in
-        rw same (entries-byte mode ps later old ∙ saving-byte save level (counterPlace Setups) (countedBy (entries mode ps) old))
+        rw same (entries-byte mode ps later old ∙ saving-byte save level (counterPlace Setups) (countedBy (openings mode ps) old))
     at-counter false e = resets-byte place e mode ps later old ∙ saving-byte save level place kept ∙ at-saved (eqb place savedPlace) refl
 
 pub every-tick : EveryTick
@@ -201,7 +201,7 @@ resets-by Factory g e = absurd (false≢true e)
 record Has (mode : Mode) (ps : List Paddle) (found : Mode) (count : ℕ) : Type 0 where
   paddle : ℕ
   there : paddle < length ps
-  taps : gesture (getD ps paddle fresh) ≡ gestures.Taps count
+  taps : gesture (getD ps paddle freshPaddle) ≡ gestures.Taps count
   finds : modeFor mode ps paddle ≡ found
 
 reset-has : (mode : Mode) (ps : List Paddle) → reset mode ps ≡ true → Has mode ps Setup 10
@@ -218,7 +218,7 @@ reset-has mode (p ∷ ps) e = go (resets mode (gesture p)) refl (λ h. reset-has
         let rest = later h in
         record { paddle = suc (rest .paddle); there = omega (arith, rest .there); taps = rest .taps; finds = rest .finds }
 
-has-reset : (mode : Mode) (ps : List Paddle) (i : ℕ) → i < length ps → gesture (getD ps i fresh) ≡ gestures.Taps 10 → modeFor mode ps i ≡ Setup → reset mode ps ≡ true
+has-reset : (mode : Mode) (ps : List Paddle) (i : ℕ) → i < length ps → gesture (getD ps i freshPaddle) ≡ gestures.Taps 10 → modeFor mode ps i ≡ Setup → reset mode ps ≡ true
 unfolding reset modeFor resets closed
 has-reset mode [] i there taps finds = absurd (omega arith)
 has-reset mode (p ∷ ps) zero there taps finds = rw (finds, taps)
@@ -242,7 +242,7 @@ factory-from-outside s i out c =
 -- ---- the ticks that pass Setup unseen
 
 -- The mode that a paddle leaves is what the next one finds.
-next-finds : (mode : Mode) (ps : List Paddle) (i : ℕ) → i < length ps → modeFor mode ps (suc i) ≡ leads (modeFor mode ps i) (gesture (getD ps i fresh))
+next-finds : (mode : Mode) (ps : List Paddle) (i : ℕ) → i < length ps → modeFor mode ps (suc i) ≡ leads (modeFor mode ps i) (gesture (getD ps i freshPaddle))
 unfolding modeFor
 next-finds mode [] i there = absurd (omega arith)
 next-finds mode (p ∷ []) zero there = refl
@@ -287,8 +287,8 @@ unseen-exactly s e out = (
       ((k .0, inr (subst (ByFiveTaps s) (sym (k .1 .0)) (enters-by s (k .1 .1)))), to (e .deed) refl (k .1 .0)),
 )
 
-entries-some : (mode : Mode) (ps : List Paddle) (i : ℕ) → i < length ps → gesture (getD ps i fresh) ≡ gestures.Taps 5 → modeFor mode ps i ≡ Normal → 1 ≤ entries mode ps
-unfolding entries modeFor opens closed
+entries-some : (mode : Mode) (ps : List Paddle) (i : ℕ) → i < length ps → gesture (getD ps i freshPaddle) ≡ gestures.Taps 5 → modeFor mode ps i ≡ Normal → 1 ≤ openings mode ps
+unfolding openings modeFor opens closed
 entries-some mode [] i there taps finds = absurd (omega arith)
 entries-some mode (p ∷ ps) zero there taps finds = rw (finds, taps) (omega arith)
 entries-some mode (p ∷ ps) (suc i) there taps finds =
@@ -323,7 +323,7 @@ module _ (s : Switch Plain) (two : length (s .plain .paddles) ≡ 2) where
   finds i = modeFor (s .plain .core .mode) (s .plain .paddles) i
 
   abbrev completes : ℕ → Gesture
-  completes i = gesture (getD (s .plain .paddles) i fresh)
+  completes i = gesture (getD (s .plain .paddles) i freshPaddle)
 
   second-finds : finds 1 ≡ leads (s .plain .core .mode) (completes 0)
   second-finds =

@@ -24,11 +24,11 @@ use Rattle.dimmer.specs.Dimmer.{dimmer, optionsOf, stopped, stoppedFrom, ticked
 use Rattle.dimmer.specs.declared.Dimmer.{Dimmer}
 use Rattle.dimmer.specs.declared.Motion.{Motion}
 use Rattle.dimmer.specs.declared.Motion.the-variants.{Idle, Fading, Blinking}
-use Rattle.lamp.specs.Lamp.{blinked}
+use Rattle.lamp.specs.Lamp.{signalSet}
 use Rattle.lamp.specs.declared.Lamp.{Lamp}
 use Rattle.lamp.proofs.Laws.{output-plain}
-use Rattle.paddle.specs.Paddle.{closing, counted, down, fresh, gesture, gestureUp, next, none, pressed, released}
-use Rattle.paddle.specs.Promises.{due, gestureFor, past, pressFor, raised, skip, ticks, wait, waitFor}
+use Rattle.paddle.specs.Paddle.{closing, oneTapMore, down, freshPaddle, gesture, gestureUp, nextPaddle, completesNothing, pressed, released}
+use Rattle.paddle.specs.Promises.{due, gestureFor, past, pressFor, raised, paddleSkip, paddleTicks, wait, waitFor}
 use Rattle.paddle.specs.declared.Contact.{Contact}
 use Rattle.paddle.specs.declared.Gesture.{Gesture}
 use Rattle.paddle.specs.declared.Gesture.the-variants.{Hold, Nothing, Release, Taps}
@@ -39,14 +39,14 @@ use Rattle.registers.specs.Write.{applied}
 use Rattle.registers.specs.declared.write.Write.{Write}
 use Rattle.registers.specs.declared.write.Write.the-variants.{Factory as FactoryValues, Nothing as Unwritten}
 use Rattle.acts.specs.Core.{aged, effect, entering, opened, saved, setting, stopping, unwritten}
-use Rattle.acts.specs.Gestures.{acted, actedIn, doing, far, holding, inFactory, inNormal, inSetup, leads, tapsInFactory, tapsInNormal, tapsInSetup, writes}
+use Rattle.acts.specs.Gestures.{acted, actedIn, byAction, far, holding, actedInFactory, actedInNormal, actedInSetup, leads, tapsInFactory, tapsInNormal, tapsInSetup, writes}
 use Rattle.acts.specs.declared.Core.{Core}
 use Rattle.acts.specs.declared.Effect.{Effect}
 use Rattle.acts.proofs.Laws.{gesture-leads, gesture-writes}
 use Rattle.post.specs.Post.{announced, chosen, gestureMessage}
 use Rattle.switch.specs.Switch.{Event, Plain, answerOf, answerWith, plain, press, release, tick}
 use Rattle.switch.specs.Paddles.{Moment, after, turned, turns}
-use Rattle.switch.specs.Events.{begun, finished, gestureAt, kindOf, paddleAt, paddleOf, pressedAt, releasedAt, releasing, signalled, signalledBy, ticking}
+use Rattle.switch.specs.Events.{begun, finished, gestureAt, kindOf, paddleAt, paddleOf, pressedAt, releasedAt, jobOfRelease, signalled, signalledBy, jobOfTick}
 use Rattle.switch.specs.Code.{quiet}
 use Rattle.switch.specs.Respond.{respond, wallSwitch}
 use Rattle.switch.proofs.Quick.{plainly, quick-press, quick-release, turned-nothing}
@@ -105,13 +105,13 @@ record Plainly (mode : Mode) (g : Gesture) : Type 0 where
   lamp : (all : List ℕ) (i : ℕ) (c : Core) → actedIn mode all i g c .core .lamp ≡ c .lamp
 
 one-tap : (mode : Mode) → Plainly mode (Taps 1)
-unfolding writes leads actedIn inNormal inSetup inFactory tapsInNormal tapsInSetup tapsInFactory doing setting unwritten
+unfolding writes leads actedIn actedInNormal actedInSetup actedInFactory tapsInNormal tapsInSetup tapsInFactory byAction setting unwritten
 one-tap Normal = record { silent = refl; stays = refl; lamp = λ all i c. refl }
 one-tap Setup = record { silent = refl; stays = refl; lamp = λ all i c. refl }
 one-tap Factory = record { silent = refl; stays = refl; lamp = λ all i c. refl }
 
 two-taps : (mode : Mode) → mode ≡ Normal → Plainly mode (Taps 2)
-unfolding writes leads actedIn inNormal tapsInNormal doing setting unwritten
+unfolding writes leads actedIn actedInNormal tapsInNormal byAction setting unwritten
 two-taps mode normal = subst (λ (m : Mode). Plainly m (Taps 2)) (sym normal) record { silent = refl; stays = refl; lamp = λ all i c. refl }
 
 held-lamp : (all : List ℕ) (i : ℕ) (c : Core) → holding all i c .lamp ≡ c .lamp
@@ -119,13 +119,13 @@ unfolding holding setting
 held-lamp all i c = both (λ (e : Core). e .lamp ≡ c .lamp) (optionsOf (dimmingIn all) .capable) refl refl
 
 holding-on : (mode : Mode) → Plainly mode Hold
-unfolding writes leads actedIn inNormal inSetup inFactory unwritten
+unfolding writes leads actedIn actedInNormal actedInSetup actedInFactory unwritten
 holding-on Normal = record { silent = refl; stays = refl; lamp = held-lamp }
 holding-on Setup = record { silent = refl; stays = refl; lamp = λ all i c. refl }
 holding-on Factory = record { silent = refl; stays = refl; lamp = held-lamp }
 
 letting-go : (mode : Mode) → Plainly mode Release
-unfolding writes leads actedIn inNormal inSetup inFactory stopping unwritten
+unfolding writes leads actedIn actedInNormal actedInSetup actedInFactory stopping unwritten
 letting-go Normal = record { silent = refl; stays = refl; lamp = λ all i c. refl }
 letting-go Setup = record { silent = refl; stays = refl; lamp = λ all i c. refl }
 letting-go Factory = record { silent = refl; stays = refl; lamp = λ all i c. refl }
@@ -145,12 +145,12 @@ module _ (all now : List ℕ) (same : Agrees all now) (i : ℕ) (c d : Core) (al
       go false = alike
 
   same-taps-in-normal : (n : ℕ) → tapsInNormal now i n d .core .dimmer ≡ tapsInNormal all i n c .core .dimmer
-  unfolding tapsInNormal unwritten doing opened entering
+  unfolding tapsInNormal unwritten byAction opened entering
   same-taps-in-normal n = rw (same-single all now same i, same-double all now same i) (go (eqb n 1) (eqb n 2) (eqb n 5))
     where
       by : Bool → Bool → Bool → List ℕ → Core → Effect
       by one two five r e =
-          if one then unwritten (doing r (singleIn all i) e) else if two then unwritten (doing r (doubleIn all i) e) else if five then opened e else unwritten e
+          if one then unwritten (byAction r (singleIn all i) e) else if two then unwritten (byAction r (doubleIn all i) e) else if five then opened e else unwritten e
 
       go : (one two five : Bool) → by one two five now d .core .dimmer ≡ by one two five all c .core .dimmer
       go true two five = same-setting (singleIn all i .level) (singleIn all i .rate)
@@ -171,11 +171,11 @@ module _ (all now : List ℕ) (same : Agrees all now) (i : ℕ) (c d : Core) (al
       go false false = alike
 
   same-taps-in-factory : (n : ℕ) → tapsInFactory now i n d .core .dimmer ≡ tapsInFactory all i n c .core .dimmer
-  unfolding tapsInFactory unwritten doing entering
+  unfolding tapsInFactory unwritten byAction entering
   same-taps-in-factory n = rw (same-single all now same i) (go (eqb n 1) (eqb n 2))
     where
       by : Bool → Bool → List ℕ → Core → Effect
-      by one two r e = if one then unwritten (doing r (singleIn all i) e) else if two then unwritten (entering Normal e) else unwritten e
+      by one two r e = if one then unwritten (byAction r (singleIn all i) e) else if two then unwritten (entering Normal e) else unwritten e
 
       go : (one two : Bool) → by one two now d .core .dimmer ≡ by one two all c .core .dimmer
       go true two = same-setting (singleIn all i .level) (singleIn all i .rate)
@@ -183,7 +183,7 @@ module _ (all now : List ℕ) (same : Agrees all now) (i : ℕ) (c d : Core) (al
       go false false = alike
 
   same-in : (mode : Mode) (g : Gesture) → actedIn mode now i g d .core .dimmer ≡ actedIn mode all i g c .core .dimmer
-  unfolding actedIn inNormal inSetup inFactory unwritten stopping
+  unfolding actedIn actedInNormal actedInSetup actedInFactory unwritten stopping
   same-in Normal Nothing = alike
   same-in Normal (Taps n) = same-taps-in-normal n
   same-in Normal Hold = same-holding
@@ -207,7 +207,7 @@ abbrev side : ℕ → Paddle → Paddle → List Paddle
 side zero own other = own ∷ other ∷ []
 side (suc i) own other = other ∷ own ∷ []
 
-sided : (ps : List Paddle) → length ps ≡ 2 → (i : ℕ) → i < 2 → ps ≡ side i (getD ps i fresh) (getD ps (1 - i) fresh)
+sided : (ps : List Paddle) → length ps ≡ 2 → (i : ℕ) → i < 2 → ps ≡ side i (getD ps i freshPaddle) (getD ps (1 - i) freshPaddle)
 sided [] two i h = absurd (omega arith)
 sided (p ∷ []) two i h = absurd (omega arith)
 sided (p ∷ q ∷ []) two zero h = refl
@@ -215,7 +215,7 @@ sided (p ∷ q ∷ []) two (suc zero) h = refl
 sided (p ∷ q ∷ []) two (suc (suc i)) h = absurd (omega arith)
 sided (p ∷ q ∷ r ∷ ps) two i h = absurd (omega arith)
 
-side-own : (i : ℕ) → i < 2 → (own other : Paddle) → getD (side i own other) i fresh ≡ own
+side-own : (i : ℕ) → i < 2 → (own other : Paddle) → getD (side i own other) i freshPaddle ≡ own
 side-own zero h own other = refl
 side-own (suc zero) h own other = refl
 side-own (suc (suc i)) h own other = absurd (omega arith)
@@ -225,7 +225,7 @@ side-set zero h own other p = refl
 side-set (suc zero) h own other p = refl
 side-set (suc (suc i)) h own other p = absurd (omega arith)
 
-side-next : (i : ℕ) (own other : Paddle) → map next (side i own other) ≡ side i (next own) (next other)
+side-next : (i : ℕ) (own other : Paddle) → map nextPaddle (side i own other) ≡ side i (nextPaddle own) (nextPaddle other)
 side-next zero own other = refl
 side-next (suc i) own other = refl
 
@@ -234,7 +234,7 @@ side-two zero own other = refl
 side-two (suc i) own other = refl
 
 -- What holds of both paddles holds of the paddle of every contact.
-side-each : (P : Paddle → Type 0) (i : ℕ) (own other : Paddle) → P own → P other → (j : ℕ) → j < 2 → P (getD (side i own other) j fresh)
+side-each : (P : Paddle → Type 0) (i : ℕ) (own other : Paddle) → P own → P other → (j : ℕ) → j < 2 → P (getD (side i own other) j freshPaddle)
 side-each P zero own other a b zero h = a
 side-each P zero own other a b (suc zero) h = b
 side-each P zero own other a b (suc (suc j)) h = absurd (omega arith)
@@ -243,7 +243,7 @@ side-each P (suc i) own other a b (suc zero) h = a
 side-each P (suc i) own other a b (suc (suc j)) h = absurd (omega arith)
 
 side-quiet : (i : ℕ) (own other : Paddle) → gesture own ≡ Nothing → gesture other ≡ Nothing → quiet (side i own other) ≡ true
-unfolding quiet none
+unfolding quiet completesNothing
 side-quiet zero own other a b = rw (a, b)
 side-quiet (suc i) own other a b = rw (a, b)
 
@@ -277,7 +277,7 @@ stopped-level level last (Blinking period left) = (refl, refl)
 
 released-in : (mode : Mode) (all : List ℕ) (i : ℕ) (c : Core)
     → (actedIn mode all i Release c .core .dimmer .level ≡ c .dimmer .level) × ((mode ≡ Setup → c .dimmer .motion ≡ Idle) → actedIn mode all i Release c .core .dimmer .motion ≡ Idle)
-unfolding actedIn inNormal inSetup inFactory unwritten stopping stopped
+unfolding actedIn actedInNormal actedInSetup actedInFactory unwritten stopping stopped
 released-in Normal all i c = let e = stopped-level (c .dimmer .level) (c .dimmer .last) (c .dimmer .motion) in (e .0, λ rests. e .1)
 released-in Setup all i c = (refl, λ rests. rests refl)
 released-in Factory all i c = let e = stopped-level (c .dimmer .level) (c .dimmer .last) (c .dimmer .motion) in (e .0, λ rests. e .1)
@@ -291,7 +291,7 @@ unfolding acted
 released-idle all i c rests = released-in (c .mode) all i c .1 rests
 
 held-in-setup : (all : List ℕ) (i : ℕ) (c : Core) → c .mode ≡ Setup → acted all i Hold c .core .dimmer .motion ≡ c .dimmer .motion
-unfolding acted actedIn inSetup unwritten
+unfolding acted actedIn actedInSetup unwritten
 held-in-setup all i c setup = ap (λ (m : Mode). actedIn m all i Hold c .core .dimmer .motion) setup
 
 -- ---- an event of the paddles, once they have had their turn
@@ -302,7 +302,7 @@ record Kept (c now : Core) : Type 0 where
   flash : now .lamp .flash ≡ c .lamp .flash
 
 signalled-keeps : (sent : List (List ℕ)) (c : Core) → Kept c (signalledBy sent c)
-unfolding signalledBy signalled blinked
+unfolding signalledBy signalled signalSet
 signalled-keeps [] c = record { dimmer = refl; mode = refl; flash = refl }
 signalled-keeps (p ∷ sent) c = record { dimmer = refl; mode = refl; flash = refl }
 
@@ -370,15 +370,15 @@ module _ (s : Switch Plain) (d : Dimmer) (i : ℕ) (own other : Paddle) (t : Swi
 
   -- A tick that completes nothing.
   tick-passed : Like s d i own other t → d .motion ≡ Idle → gesture own ≡ Nothing → gesture other ≡ Nothing
-      → Passed s d i (next own) (next other) t (with48 tick ∷ [])
+      → Passed s d i (nextPaddle own) (nextPaddle other) t (with48 tick ∷ [])
   unfolding run
   tick-passed like idle a b =
       let same = quiet-tick t 48 (omega arith) (ap quiet (like .paddles) ∙ side-quiet i own other a b) in
       let level = ap ticked (like .has) ∙ idle-ticked d idle in
       record {
-        now = subst (Like s d i (next own) (next other)) (sym (ap (λ r. r .next) same))
+        now = subst (Like s d i (nextPaddle own) (nextPaddle other)) (sym (ap (λ r. r .next) same))
             record {
-              paddles = ap (map next) (like .paddles) ∙ side-next i own other;
+              paddles = ap (map nextPaddle) (like .paddles) ∙ side-next i own other;
               mode = like .mode;
               has = level;
               steady = steady-next (t .plain .core .lamp) (like .steady);
@@ -389,20 +389,20 @@ module _ (s : Switch Plain) (d : Dimmer) (i : ℕ) (own other : Paddle) (t : Swi
 
 -- A paddle that completes nothing in n ticks.
 abbrev QuietFor : ℕ → Paddle → Type 0
-QuietFor n p = (k : ℕ) → k < n → gesture (ticks k p) ≡ Nothing
+QuietFor n p = (k : ℕ) → k < n → gesture (paddleTicks k p) ≡ Nothing
 
-quiet-on : (n : ℕ) (p : Paddle) → QuietFor (suc n) p → QuietFor n (next p)
+quiet-on : (n : ℕ) (p : Paddle) → QuietFor (suc n) p → QuietFor n (nextPaddle p)
 quiet-on n p q k h = ap gesture (ticks-shift k p) ∙ q (suc k) (omega arith)
 
 ticks-passed : (s : Switch Plain) (d : Dimmer) (i n : ℕ) (own other : Paddle) (t : Switch Plain) → Like s d i own other t → d .motion ≡ Idle
-    → QuietFor n own → QuietFor n other → Passed s d i (ticks n own) (ticks n other) t (ticksOf n)
-unfolding run ticks ticksOf
+    → QuietFor n own → QuietFor n other → Passed s d i (paddleTicks n own) (paddleTicks n other) t (ticksOf n)
+unfolding run paddleTicks ticksOf
 ticks-passed s d i zero own other t like idle a b = record { now = like; unmoved = tt }
 ticks-passed s d i (suc n) own other t like idle a b =
     let one = tick-passed s d i own other t like idle (a 0 (omega arith)) (b 0 (omega arith)) in
-    let on = ticks-passed s d i n (next own) (next other) (respond t (with48 tick) .next) (one .now) idle (quiet-on n own a) (quiet-on n other b) in
+    let on = ticks-passed s d i n (nextPaddle own) (nextPaddle other) (respond t (with48 tick) .next) (one .now) idle (quiet-on n own a) (quiet-on n other b) in
     rw (← ticks-shift n own, ← ticks-shift n other)
-    (both-passed s d i (ticks n (next own)) (ticks n (next other)) t (with48 tick ∷ []) (ticksOf n) (next own) (next other) one on)
+    (both-passed s d i (paddleTicks n (nextPaddle own)) (paddleTicks n (nextPaddle other)) t (with48 tick ∷ []) (ticksOf n) (nextPaddle own) (nextPaddle other) one on)
 
 -- ---- edges
 
@@ -427,11 +427,11 @@ module _ (s : Switch Plain) (d : Dimmer) (contact : ℕ) (known : contact ≤ 3)
       (record { paddles = ap (pressedAt contact) (like .paddles) ∙ pressed-side contact own other; mode = like .mode; has = like .has; steady = like .steady; registers = like .registers })
 
   release-passed : gestureUp (kindOf contact) own ≡ Nothing → Passed s d (paddleOf contact) (released (kindOf contact) own) other t (with48 (release contact) ∷ [])
-  unfolding none
+  unfolding completesNothing
   release-passed still =
       one-passed s d (paddleOf contact) (released (kindOf contact) own) other t (with48 (release contact)) _ _
       (quick-release (t .plain .registers) (t .plain .core) (t .plain .paddles) (t .password) 48 (omega arith) contact known
-      (ap (λ (ps : List Paddle). none (gestureAt contact ps)) (like .paddles) ∙ ap none (gesture-side contact own other ∙ still)))
+      (ap (λ (ps : List Paddle). completesNothing (gestureAt contact ps)) (like .paddles) ∙ ap completesNothing (gesture-side contact own other ∙ still)))
       (record { paddles = ap (releasedAt contact) (like .paddles) ∙ released-side contact own other; mode = like .mode; has = like .has; steady = like .steady; registers = like .registers })
 
 -- ---- a gesture that acts
@@ -469,8 +469,8 @@ record Acts (s : Switch Plain) (E : Dimmer) (i : ℕ) (g : Gesture) (own other :
 module _ (s : Switch Plain) (d : Dimmer) (contact : ℕ) (own other : Paddle) (t : Switch Plain) (like : Like s d (paddleOf contact) own other t)
     (g : Gesture) (one : Plainly (t .plain .core .mode) g) (E : Dimmer) where
   tick-acts : acted (t .plain .registers) (paddleOf contact) g (aged (t .plain .core)) .core .dimmer ≡ E → gesture own ≡ g → gesture other ≡ Nothing
-      → Acts s E (paddleOf contact) g (next own) (next other) t (with48 tick)
-  unfolding Product.respond ticking after saved aged
+      → Acts s E (paddleOf contact) g (nextPaddle own) (nextPaddle other) t (with48 tick)
+  unfolding Product.responseOf jobOfTick after saved aged
   tick-acts comes mine still =
       let i = paddleOf contact in
       let c = aged (t .plain .core) in
@@ -478,17 +478,17 @@ module _ (s : Switch Plain) (d : Dimmer) (contact : ℕ) (own other : Paddle) (t
       let turn : turns 0 (t .plain .paddles) (begun (t .plain) c) ≡ m =
       ap (λ (ps : List Paddle). turns 0 ps (begun (t .plain) c)) (like .paddles) ∙ side-turns i (below-two contact) own other still (begun (t .plain) c)
       ∙ ap (λ (h : Gesture). turned i h (begun (t .plain) c)) mine in
-      let same : respond t (with48 tick) ≡ settled (t .password) (finished (after (saved (m .core)) m) (map next (t .plain .paddles))) =
+      let same : respond t (with48 tick) ≡ settled (t .password) (finished (after (saved (m .core)) m) (map nextPaddle (t .plain .paddles))) =
       ap (settled (t .password)) (tick-job (t .plain) 48 (omega arith))
-      ∙ ap (λ (m : Moment). settled (t .password) (finished (after (saved (m .core)) m) (map next (t .plain .paddles)))) turn in
+      ∙ ap (λ (m : Moment). settled (t .password) (finished (after (saved (m .core)) m) (map nextPaddle (t .plain .paddles)))) turn in
       let last = after (saved (m .core)) m in
       let steady = turned-steady (t .plain) c i g one E comes (steady-next (t .plain .core .lamp) (like .steady)) in
-      let ps = map next (t .plain .paddles) in
+      let ps = map nextPaddle (t .plain .paddles) in
       let sent = turned-sent (t .plain) c i g one E comes (s .plain .registers) (s .plain .core .mode) (like .registers) (like .mode) in
       record {
-        now = subst (Like s E i (next own) (next other)) (sym (ap (λ a. a .next) same))
+        now = subst (Like s E i (nextPaddle own) (nextPaddle other)) (sym (ap (λ a. a .next) same))
             record {
-              paddles = finished-paddles t last ps ∙ ap (map next) (like .paddles) ∙ side-next i own other;
+              paddles = finished-paddles t last ps ∙ ap (map nextPaddle) (like .paddles) ∙ side-next i own other;
               mode = finished-mode t last ps ∙ turned-mode (t .plain) c i g one E comes ∙ like .mode;
               has = finished-dimmer t last ps ∙ turned-dimmer (t .plain) c i g one E comes;
               steady = finished-steady t last ps steady;
@@ -501,7 +501,7 @@ module _ (s : Switch Plain) (d : Dimmer) (contact : ℕ) (own other : Paddle) (t
 
   release-acts : contact ≤ 3 → acted (t .plain .registers) (paddleOf contact) g (t .plain .core) .core .dimmer ≡ E → gestureUp (kindOf contact) own ≡ g
       → Acts s E (paddleOf contact) g (released (kindOf contact) own) other t (with48 (release contact))
-  unfolding Product.respond releasing
+  unfolding Product.responseOf jobOfRelease
   release-acts known comes mine =
       let i = paddleOf contact in
       let c = t .plain .core in
@@ -530,18 +530,18 @@ module _ (s : Switch Plain) (d : Dimmer) (contact : ℕ) (own other : Paddle) (t
 
 -- A paddle that completes nothing any more.
 abbrev Done : Paddle → Type 0
-Done p = (k : ℕ) → gesture (ticks k p) ≡ Nothing
+Done p = (k : ℕ) → gesture (paddleTicks k p) ≡ Nothing
 
-done-next : (p : Paddle) → Done p → Done (next p)
+done-next : (p : Paddle) → Done p → Done (nextPaddle p)
 done-next p done k = ap gesture (ticks-shift k p) ∙ done (suc k)
 
-done-ticks : (n : ℕ) (p : Paddle) → Done p → Done (ticks n p)
-unfolding ticks
+done-ticks : (n : ℕ) (p : Paddle) → Done p → Done (paddleTicks n p)
+unfolding paddleTicks
 done-ticks zero p done = done
-done-ticks (suc n) p done = done-next (ticks n p) (done-ticks n p done)
+done-ticks (suc n) p done = done-next (paddleTicks n p) (done-ticks n p done)
 
 done-as : (p : Paddle) (hold gap : ℕ) → p ≡ raised hold gap 0 → Done p
-done-as p hold gap e k = ap (λ (q : Paddle). gesture (ticks k q)) e ∙ untapped k hold gap
+done-as p hold gap e k = ap (λ (q : Paddle). gesture (paddleTicks k q)) e ∙ untapped k hold gap
 
 pressed-quiet : (n : ℕ) (k : Contact) (hold gap taps : ℕ) → n ≤ 179 → QuietFor n (pressed k (raised hold gap taps))
 pressed-quiet n k hold gap taps h m under = paddle.hold-comes m k hold gap taps ∙ rw (ne-eqb 179 m (λ e. omega arith))
@@ -556,16 +556,16 @@ module _ (hold taps : ℕ) where
   unfolding wait waitFor down due less
   run-quiet m under = paddle.quiet m (raised hold 180 (suc taps)) (rw (ne-eqb (suc taps) 0 (λ e. omega arith)) (ne-eqb 179 m (λ e. omega arith)))
 
-  run-due : gesture (ticks 179 (raised hold 180 (suc taps))) ≡ Taps (suc taps)
+  run-due : gesture (paddleTicks 179 (raised hold 180 (suc taps))) ≡ Taps (suc taps)
   unfolding closing
   run-due = paddle.closes hold 180 (suc taps) ∙ rw (ne-eqb (suc taps) 0 (λ e. omega arith))
 
-  run-gone : (n gap : ℕ) → gap ≡ suc n → next (ticks n (raised hold gap (suc taps))) ≡ raised hold 0 0
-  unfolding ticks skip down wait waitFor past lessBy less
+  run-gone : (n gap : ℕ) → gap ≡ suc n → nextPaddle (paddleTicks n (raised hold gap (suc taps))) ≡ raised hold 0 0
+  unfolding paddleTicks paddleSkip down wait waitFor past lessBy less
   run-gone n gap e =
-      let none : gap - suc n ≡ 0 = omega arith in
+      let completesNothing : gap - suc n ≡ 0 = omega arith in
       sym (paddle.skip-ticks (suc n) (raised hold gap (suc taps)))
-      ∙ rw (ne-eqb (suc taps) 0 (λ e. omega arith)) (rw (lt-ltb (gap - 1) (suc n) (omega arith), none))
+      ∙ rw (ne-eqb (suc taps) 0 (λ e. omega arith)) (rw (lt-ltb (gap - 1) (suc n) (omega arith), completesNothing))
 
 -- ---- a switch at rest
 
@@ -579,8 +579,8 @@ like-left : (s : Switch Plain) (E : Dimmer) (i : ℕ) (own other : Paddle) (t : 
 like-left s E i own other t like a b m some =
     shows-as (nthTick t m) _ _ _ _ _ _ (like .mode) (ap (λ (d : Dimmer). tickedBy m d .level) (like .has)) refl
     (left-to-itself t m (ap length (like .paddles) ∙ side-two i own other) (like .steady)
-    (λ contact k h. ap (λ (ps : List Paddle). gesture (ticks k (paddleAt contact ps))) (like .paddles)
-    ∙ side-each (λ (p : Paddle). gesture (ticks k p) ≡ Nothing) i own other (a k) (b k) (paddleOf contact) (below-two contact)) some)
+    (λ contact k h. ap (λ (ps : List Paddle). gesture (paddleTicks k (paddleAt contact ps))) (like .paddles)
+    ∙ side-each (λ (p : Paddle). gesture (paddleTicks k p) ≡ Nothing) i own other (a k) (b k) (paddleOf contact) (below-two contact)) some)
 
 module _ (s : Switch Plain) (contact : ℕ) (known : contact ≤ 3) (idle : dimmerIn s .motion ≡ Idle) where
   abbrev Now : Paddle → Paddle → Switch Plain → Type 0
@@ -592,7 +592,7 @@ module _ (s : Switch Plain) (contact : ℕ) (known : contact ≤ 3) (idle : dimm
   then-after : (own other own′ other′ : Paddle) (t : Switch Plain) (es fs : List Event) → After own other t es → After own′ other′ (runOf t es) fs → After own′ other′ t (es ++ fs)
   then-after own other own′ other′ t es fs first second = both-passed s (dimmerIn s) (paddleOf contact) own′ other′ t es fs own other first second
 
-  ticks-after : (n : ℕ) (own other : Paddle) (t : Switch Plain) → Now own other t → QuietFor n own → Done other → After (ticks n own) (ticks n other) t (ticksOf n)
+  ticks-after : (n : ℕ) (own other : Paddle) (t : Switch Plain) → Now own other t → QuietFor n own → Done other → After (paddleTicks n own) (paddleTicks n other) t (ticksOf n)
   ticks-after n own other t now quiet done = ticks-passed s (dimmerIn s) (paddleOf contact) n own other t now idle quiet (λ k h. done k)
 
   -- What a gesture does to the dimmer of a switch as s was.
@@ -606,27 +606,27 @@ module _ (s : Switch Plain) (contact : ℕ) (known : contact ≤ 3) (idle : dimm
   module _ (other : Paddle) (done : Done other) where
     module _ (hold gap taps : ℕ) (t : Switch Plain) (now : Now (raised hold gap taps) other t) where
       -- The press and its first n ticks.
-      pressed-for : (n : ℕ) → n ≤ 179 → After (ticks n (pressed (kindOf contact) (raised hold gap taps))) (ticks n other) t (with48 (press contact) ∷ ticksOf n)
+      pressed-for : (n : ℕ) → n ≤ 179 → After (paddleTicks n (pressed (kindOf contact) (raised hold gap taps))) (paddleTicks n other) t (with48 (press contact) ∷ ticksOf n)
       pressed-for n h =
           let k = kindOf contact in
           let own = raised hold gap taps in
           let edge = press-passed s (dimmerIn s) contact known own other t now in
           let on = ticks-after n (pressed k own) other (runOf t (with48 (press contact) ∷ [])) (edge .now) (pressed-quiet n k hold gap taps h) done in
-          then-after (pressed k own) other (ticks n (pressed k own)) (ticks n other) t (with48 (press contact) ∷ []) (ticksOf n) edge on
+          then-after (pressed k own) other (paddleTicks n (pressed k own)) (paddleTicks n other) t (with48 (press contact) ∷ []) (ticksOf n) edge on
 
       -- A whole press of less than 180 ticks.
-      let-go-after : (n : ℕ) → n < 180 → After (pressFor n (kindOf contact) (raised hold gap taps)) (ticks n other) t (pressOf n contact)
+      let-go-after : (n : ℕ) → n < 180 → After (pressFor n (kindOf contact) (raised hold gap taps)) (paddleTicks n other) t (pressOf n contact)
       let-go-after n h =
           let k = kindOf contact in
           let own = raised hold gap taps in
           let held = pressed-for n (omega arith) in
-          then-after (ticks n (pressed k own)) (ticks n other) (pressFor n k own) (ticks n other) t (with48 (press contact) ∷ ticksOf n) (with48 (release contact) ∷ []) held
-          (release-passed s (dimmerIn s) contact known (ticks n (pressed k own)) (ticks n other) (runOf t (with48 (press contact) ∷ ticksOf n)) (held .now) (let-go-quiet n k hold gap taps h))
+          then-after (paddleTicks n (pressed k own)) (paddleTicks n other) (pressFor n k own) (paddleTicks n other) t (with48 (press contact) ∷ ticksOf n) (with48 (release contact) ∷ []) held
+          (release-passed s (dimmerIn s) contact known (paddleTicks n (pressed k own)) (paddleTicks n other) (runOf t (with48 (press contact) ∷ ticksOf n)) (held .now) (let-go-quiet n k hold gap taps h))
 
       -- It is a tap from 60 ticks on.
-      tap-after : (n : ℕ) → 60 ≤ n → n < 180 → After (raised (180 - n) 180 (counted taps)) (ticks n other) t (pressOf n contact)
+      tap-after : (n : ℕ) → 60 ≤ n → n < 180 → After (raised (180 - n) 180 (oneTapMore taps)) (paddleTicks n other) t (pressOf n contact)
       tap-after n least most =
-          subst (λ (p : Paddle). After p (ticks n other) t (pressOf n contact)) (paddle.a-tap n (kindOf contact) hold gap taps least most .0) (let-go-after n most)
+          subst (λ (p : Paddle). After p (paddleTicks n other) t (pressOf n contact)) (paddle.a-tap n (kindOf contact) hold gap taps least most .0) (let-go-after n most)
 
     -- The run closes.
     run-closes : (hold taps : ℕ) (es : List Event) → Plainly (modeIn s) (Taps (suc taps)) → After (raised hold 180 (suc taps)) other s es → IsTaps (suc taps) contact s es
@@ -636,18 +636,18 @@ module _ (s : Switch Plain) (contact : ℕ) (known : contact ≤ 3) (idle : dimm
         let E = dimmerBy g contact s in
         let tapped : Paddle = raised hold 180 (suc taps) in
         let t = runOf s es in
-        let all = then-after tapped other (ticks 179 tapped) (ticks 179 other) s es (ticksOf 179) gone (ticks-after 179 tapped other t (gone .now) (run-quiet hold taps) done) in
+        let all = then-after tapped other (paddleTicks 179 tapped) (paddleTicks 179 other) s es (ticksOf 179) gone (ticks-after 179 tapped other t (gone .now) (run-quiet hold taps) done) in
         let u = runOf s (es ++ ticksOf 179) in
-        let acts = tick-acts s (dimmerIn s) contact (ticks 179 tapped) (ticks 179 other) u (all .now) g (subst (λ (m : Mode). Plainly m g) (sym (all .now .mode)) plain) E
-        (does-as g (ticks 179 tapped) (ticks 179 other) u (all .now)) (run-due hold taps) (done 179) in
+        let acts = tick-acts s (dimmerIn s) contact (paddleTicks 179 tapped) (paddleTicks 179 other) u (all .now) g (subst (λ (m : Mode). Plainly m g) (sym (all .now .mode)) plain) E
+        (does-as g (paddleTicks 179 tapped) (paddleTicks 179 other) u (all .now)) (run-due hold taps) (done 179) in
         let last : runOf s (es ++ ticksOf 180) ≡ respond u (with48 tick) .next =
         run-joined s es (ticksOf 180) ∙ run-more 179 t ∙ ap (λ (v : Switch Plain). respond v (with48 tick) .next) (sym (run-joined s es (ticksOf 179))) in
         record {
           before = all .unmoved;
           acts = acts .shows;
-          after = like-left s E i (next (ticks 179 tapped)) (next (ticks 179 other)) (runOf s (es ++ ticksOf 180))
-              (subst (Like s E i (next (ticks 179 tapped)) (next (ticks 179 other))) (sym last) (acts .now))
-              (done-as (next (ticks 179 tapped)) hold 0 (run-gone hold taps 179 180 refl)) (done-next (ticks 179 other) (done-ticks 179 other done));
+          after = like-left s E i (nextPaddle (paddleTicks 179 tapped)) (nextPaddle (paddleTicks 179 other)) (runOf s (es ++ ticksOf 180))
+              (subst (Like s E i (nextPaddle (paddleTicks 179 tapped)) (nextPaddle (paddleTicks 179 other))) (sym last) (acts .now))
+              (done-as (nextPaddle (paddleTicks 179 tapped)) hold 0 (run-gone hold taps 179 180 refl)) (done-next (paddleTicks 179 other) (done-ticks 179 other done));
         }
 
   module _ (rest : AtRest s) where
@@ -655,7 +655,7 @@ module _ (s : Switch Plain) (contact : ℕ) (known : contact ≤ 3) (idle : dimm
     mine = paddleAt contact (s .plain .paddles)
 
     abbrev theirs : Paddle
-    theirs = getD (s .plain .paddles) (1 - paddleOf contact) fresh
+    theirs = getD (s .plain .paddles) (1 - paddleOf contact) freshPaddle
 
     abbrev other : Paddle
     other = raised (theirs .hold) (theirs .gap) 0
@@ -664,10 +664,10 @@ module _ (s : Switch Plain) (contact : ℕ) (known : contact ≤ 3) (idle : dimm
     at-first =
         let i = paddleOf contact in
         let number = other-number i (below-two contact) in
-        let up = ap (λ (j : ℕ). down (getD (s .plain .paddles) j fresh)) (sym number) ∙ rest .up (1 - i) in
-        let none = ap (λ (j : ℕ). getD (s .plain .paddles) j fresh .taps) (sym number) ∙ rest .untapped (1 - i) in
+        let up = ap (λ (j : ℕ). down (getD (s .plain .paddles) j freshPaddle)) (sym number) ∙ rest .up (1 - i) in
+        let completesNothing = ap (λ (j : ℕ). getD (s .plain .paddles) j freshPaddle .taps) (sym number) ∙ rest .untapped (1 - i) in
         record {
-          paddles = sided (s .plain .paddles) (rest .two) i (below-two contact) ∙ ap₂ (side i) (up-untapped mine (rest .up contact) (rest .untapped contact)) (up-untapped theirs up none);
+          paddles = sided (s .plain .paddles) (rest .two) i (below-two contact) ∙ ap₂ (side i) (up-untapped mine (rest .up contact) (rest .untapped contact)) (up-untapped theirs up completesNothing);
           mode = refl;
           has = refl;
           steady = rest .steady;
@@ -682,36 +682,36 @@ module _ (s : Switch Plain) (contact : ℕ) (known : contact ≤ 3) (idle : dimm
     is-nothing n h later =
         let k = kindOf contact in
         let up : Paddle = raised (180 - n) (mine .gap - n) 0 in
-        let gone = subst (λ (p : Paddle). After p (ticks n other) s (pressOf n contact)) (paddle.too-short n k (mine .hold) (mine .gap) 0 h .0)
+        let gone = subst (λ (p : Paddle). After p (paddleTicks n other) s (pressOf n contact)) (paddle.too-short n k (mine .hold) (mine .gap) 0 h .0)
         (let-go-after other other-done (mine .hold) (mine .gap) 0 s at-first n (omega arith)) in
-        then-after up (ticks n other) (ticks later up) (ticks later (ticks n other)) s (pressOf n contact) (ticksOf later) gone
-        (ticks-after later up (ticks n other) (runOf s (pressOf n contact)) (gone .now) (λ m under. untapped m (180 - n) (mine .gap - n)) (done-ticks n other other-done)) .unmoved
+        then-after up (paddleTicks n other) (paddleTicks later up) (paddleTicks later (paddleTicks n other)) s (pressOf n contact) (ticksOf later) gone
+        (ticks-after later up (paddleTicks n other) (runOf s (pressOf n contact)) (gone .now) (λ m under. untapped m (180 - n) (mine .gap - n)) (done-ticks n other other-done)) .unmoved
 
     -- From 60 to 179: a tap.
     pub is-tap : (n : ℕ) → 60 ≤ n → n < 180 → IsTaps 1 contact s (pressOf n contact)
-    unfolding counted
+    unfolding oneTapMore
     is-tap n least most =
-        run-closes (ticks n other) (done-ticks n other other-done) (180 - n) 0 (pressOf n contact) (one-tap (modeIn s))
+        run-closes (paddleTicks n other) (done-ticks n other other-done) (180 - n) 0 (pressOf n contact) (one-tap (modeIn s))
         (tap-after other other-done (mine .hold) (mine .gap) 0 s at-first n least most)
 
     -- A second one, pressed before the run closes, is counted with the first.
     pub is-double : (gap n : ℕ) → gap ≤ 179 → 60 ≤ n → n < 180 → modeIn s ≡ Normal
         → IsTaps 2 contact s (pressOf n contact ++ (ticksOf gap ++ pressOf n contact))
-    unfolding counted
+    unfolding oneTapMore
     is-double gap n within least most normal =
         let h = 180 - n in
         let tapped : Paddle = raised h 180 1 in
-        let o = ticks n other in
+        let o = paddleTicks n other in
         let o-done = done-ticks n other other-done in
         let one = tap-after other other-done (mine .hold) (mine .gap) 0 s at-first n least most in
         let t = runOf s (pressOf n contact) in
-        let wait = subst (λ (p : Paddle). After p (ticks gap o) t (ticksOf gap)) (paddle.run-open gap h 180 1 (omega arith))
+        let wait = subst (λ (p : Paddle). After p (paddleTicks gap o) t (ticksOf gap)) (paddle.run-open gap h 180 1 (omega arith))
         (ticks-after gap tapped o t (one .now) (λ m under. run-quiet h 0 m (omega arith)) o-done) in
-        let two = tap-after (ticks gap o) (done-ticks gap o o-done) h (180 - gap) 1 (runOf t (ticksOf gap)) (wait .now) n least most in
-        let last = ticks n (ticks gap o) in
-        run-closes last (done-ticks n (ticks gap o) (done-ticks gap o o-done)) h 1 (pressOf n contact ++ (ticksOf gap ++ pressOf n contact)) (two-taps (modeIn s) normal)
+        let two = tap-after (paddleTicks gap o) (done-ticks gap o o-done) h (180 - gap) 1 (runOf t (ticksOf gap)) (wait .now) n least most in
+        let last = paddleTicks n (paddleTicks gap o) in
+        run-closes last (done-ticks n (paddleTicks gap o) (done-ticks gap o o-done)) h 1 (pressOf n contact ++ (ticksOf gap ++ pressOf n contact)) (two-taps (modeIn s) normal)
         (then-after tapped o (raised h 180 2) last s (pressOf n contact) (ticksOf gap ++ pressOf n contact) one
-        (then-after (raised h (180 - gap) 1) (ticks gap o) (raised h 180 2) last t (ticksOf gap) (pressOf n contact) wait two))
+        (then-after (raised h (180 - gap) 1) (paddleTicks gap o) (raised h 180 2) last t (ticksOf gap) (pressOf n contact) wait two))
 
     one-tick-more : runOf s (with48 (press contact) ∷ ticksOf 180) ≡ respond (runOf s (with48 (press contact) ∷ ticksOf 179)) (with48 tick) .next
     unfolding run
@@ -723,22 +723,22 @@ module _ (s : Switch Plain) (contact : ℕ) (known : contact ≤ 3) (idle : dimm
 
     -- At 180: Hold, and Release at the edge.
     pub is-hold : IsHold contact s
-    unfolding ticks
+    unfolding paddleTicks
     is-hold =
         let i = paddleOf contact in
         let k = kindOf contact in
         let E = dimmerBy Hold contact s in
-        let down : Paddle = ticks 179 (pressed k (raised (mine .hold) (mine .gap) 0)) in
-        let o = ticks 179 other in
+        let down : Paddle = paddleTicks 179 (pressed k (raised (mine .hold) (mine .gap) 0)) in
+        let o = paddleTicks 179 other in
         let o-done = done-ticks 179 other other-done in
         let held = pressed-for other other-done (mine .hold) (mine .gap) 0 s at-first 179 (omega arith) in
         let t = runOf s (with48 (press contact) ∷ ticksOf 179) in
         let acts = tick-acts s (dimmerIn s) contact down o t (held .now) Hold (holding-on (modeIn t)) E (does-as Hold down o t (held .now))
         (paddle.hold-comes 179 k (mine .hold) (mine .gap) 0) (o-done 0) in
         let u = runOf s (with48 (press contact) ∷ ticksOf 180) in
-        let now = subst (Like s E i (next down) (next o)) (sym one-tick-more) (acts .now) in
+        let now = subst (Like s E i (nextPaddle down) (nextPaddle o)) (sym one-tick-more) (acts .now) in
         let F = acted (u .plain .registers) i Release (u .plain .core) .core .dimmer in
-        let up = release-acts s E contact (next down) (next o) u now Release (letting-go (modeIn u)) F known refl (paddle.a-hold 180 k (mine .hold) (mine .gap) 0 (omega arith) .1) in
+        let up = release-acts s E contact (nextPaddle down) (nextPaddle o) u now Release (letting-go (modeIn u)) F known refl (paddle.a-hold 180 k (mine .hold) (mine .gap) 0 (omega arith) .1) in
         let level : F .level ≡ E .level = released-level (u .plain .registers) i (u .plain .core) ∙ ap (λ (x : Dimmer). x .level) (now .has) in
         let stops : F .motion ≡ Idle = released-idle (u .plain .registers) i (u .plain .core)
         (λ setup. ap (λ (x : Dimmer). x .motion) (now .has) ∙ held-in-setup (s .plain .registers) i (s .plain .core) (sym (now .mode) ∙ setup) ∙ idle) in
@@ -747,8 +747,8 @@ module _ (s : Switch Plain) (contact : ℕ) (known : contact ≤ 3) (idle : dimm
           acts = acts .shows;
           release = shows-as _ _ _ (F .level) (E .level) _ _ refl level (ap (λ (l : Step). packetsBy Release contact s l) level) (up .shows);
           after = λ m some. subst (λ (l : Step). Shows (modeIn s) l [] (nthTick (runOf s (pressOf 180 contact)) m)) (idle-ticked-by m F stops ∙ level)
-              (like-left s F i (released k (next down)) (next o) (runOf s (pressOf 180 contact))
-              (subst (Like s F i (released k (next down)) (next o)) (sym let-go-at-last) (up .now))
-              (done-as (released k (next down)) 0 _ (paddle.a-hold 180 k (mine .hold) (mine .gap) 0 (omega arith) .0))
+              (like-left s F i (released k (nextPaddle down)) (nextPaddle o) (runOf s (pressOf 180 contact))
+              (subst (Like s F i (released k (nextPaddle down)) (nextPaddle o)) (sym let-go-at-last) (up .now))
+              (done-as (released k (nextPaddle down)) 0 _ (paddle.a-hold 180 k (mine .hold) (mine .gap) 0 (omega arith) .0))
               (done-next o o-done) m some);
         }

@@ -12,9 +12,9 @@ use Rattle.vault.specs.Product
 use Rattle.vault.specs.Vault.{inSetup}
 use Rattle.vault.specs.declared.Mode.{Mode}
 use Rattle.vault.specs.declared.Mode.the-variants.{Normal, Setup, Factory}
-use Rattle.paddle.specs.Paddle.{closing, completed, counted, down, ends, fresh, gesture, kept, left, next, pressed, released}
+use Rattle.paddle.specs.Paddle.{closing, completed, oneTapMore, down, ends, freshPaddle, gesture, tapsKept, left, nextPaddle, pressed, released}
 use Rattle.timers.specs.Timers.{less}
-use Rattle.paddle.specs.Promises.{raised, ticks}
+use Rattle.paddle.specs.Promises.{raised, paddleTicks}
 use Rattle.paddle.specs.declared.Contact.the-variants.{Local}
 use Rattle.paddle.specs.declared.Gesture.the-variants.{Nothing, Taps}
 use Rattle.paddle.specs.declared.Paddle.{Paddle}
@@ -22,11 +22,11 @@ use Rattle.paddle.proofs.Laws.{a-tap, hold-comes, run-open}
 use Rattle.acts.specs.Core.{started}
 use Rattle.acts.specs.Gestures.{leads}
 use Rattle.switch.specs.Switch.{Event, Plain, press, release, tick}
-use Rattle.switch.specs.Events.{begun, doing, finished, gestureAt, job, kindOf, known, paddleAt, paddleOf, pressedAt, pressing, releasedAt, releasing, signalledBy, ticking, woken}
+use Rattle.switch.specs.Events.{begun, jobOfDeed, finished, gestureAt, job, kindOf, known, paddleAt, paddleOf, pressedAt, jobOfPress, releasedAt, jobOfRelease, signalledBy, jobOfTick, woken}
 use Rattle.switch.specs.Respond.{respond, startedFrom}
 use Rattle.promises.specs.Modes.{modeFor}
 use Rattle.promises.specs.Ticking.{pressOf, runOf, ticksOf, with48}
-use Rattle.promises.specs.Passing.{BothClose, Passing, ReachedByTaps, Reaches, alone, around, throughToFactory, throughToNormal, withOne, withTwo}
+use Rattle.promises.specs.Passing.{BothClose, Passing, ReachedByTaps, Reaches, tapAlone, around, throughToFactory, throughToNormal, withOne, withTwo}
 use Rattle.promises.proofs.Cases.{run-joined, ticks-shift}
 use Rattle.promises.proofs.Modes.{finds-modes, signalled-mode, tick-mode, turned-mode, up-leads}
 use Rattle.promises.proofs.Passing.{both-pass, end-mode, every-tick, factory-exactly, factory-from-outside, of-two-paddles, ten-found, unseen-counts, unseen-exactly}
@@ -40,33 +40,33 @@ record At (s : Switch Plain) (top bottom : Paddle) : Type 0 where
 
 module _ (s : Switch Plain) (a b : Paddle) (k : At s a b) where
   top-pressed : At (respond s (with48 (press 0)) .next) (pressed Local a) b
-  unfolding Product.respond job doing known pressing finished settled pressedAt paddleOf kindOf signalledBy
+  unfolding Product.responseOf job jobOfDeed known jobOfPress finished settled pressedAt paddleOf kindOf signalledBy
   top-pressed = record { paddles = rw (k .paddles); mode = k .mode }
 
   bottom-pressed : At (respond s (with48 (press 1)) .next) a (pressed Local b)
-  unfolding Product.respond job doing known pressing finished settled pressedAt paddleOf kindOf signalledBy
+  unfolding Product.responseOf job jobOfDeed known jobOfPress finished settled pressedAt paddleOf kindOf signalledBy
   bottom-pressed = record { paddles = rw (k .paddles); mode = k .mode }
 
-  release-mode : (contact : ℕ) → settled (s .password) (releasing contact (s .plain)) .next .plain .core .mode ≡ s .plain .core .mode
-  unfolding releasing finished settled gestureAt
+  release-mode : (contact : ℕ) → settled (s .password) (jobOfRelease contact (s .plain)) .next .plain .core .mode ≡ s .plain .core .mode
+  unfolding jobOfRelease finished settled gestureAt
   release-mode contact =
       signalled-mode _ _ ∙ turned-mode (paddleOf contact) (gestureAt contact (s .plain .paddles)) (begun (s .plain) (s .plain .core))
       ∙ up-leads (s .plain .core .mode) (kindOf contact) (paddleAt contact (s .plain .paddles))
 
   top-released : At (respond s (with48 (release 0)) .next) (released Local a) b
-  unfolding Product.respond job doing known releasing finished settled releasedAt paddleOf kindOf
+  unfolding Product.responseOf job jobOfDeed known jobOfRelease finished settled releasedAt paddleOf kindOf
   top-released = record { paddles = rw (k .paddles); mode = release-mode 0 ∙ k .mode }
 
   bottom-released : At (respond s (with48 (release 1)) .next) a (released Local b)
-  unfolding Product.respond job doing known releasing finished settled releasedAt paddleOf kindOf
+  unfolding Product.responseOf job jobOfDeed known jobOfRelease finished settled releasedAt paddleOf kindOf
   bottom-released = record { paddles = rw (k .paddles); mode = release-mode 1 ∙ k .mode }
 
   quiet-mode : gesture a ≡ Nothing → gesture b ≡ Nothing → modeFor Normal (a ∷ b ∷ []) 2 ≡ Normal
   unfolding modeFor leads
   quiet-mode p q = rw (p, q)
 
-  both-ticked : gesture a ≡ Nothing → gesture b ≡ Nothing → At (respond s (with48 tick) .next) (next a) (next b)
-  unfolding Product.respond job doing ticking finished settled
+  both-ticked : gesture a ≡ Nothing → gesture b ≡ Nothing → At (respond s (with48 tick) .next) (nextPaddle a) (nextPaddle b)
+  unfolding Product.responseOf job jobOfDeed jobOfTick finished settled
   both-ticked p q = record {
     paddles = rw (k .paddles);
     mode = tick-mode s ∙ rw (k .paddles, k .mode) (quiet-mode p q);
@@ -74,32 +74,32 @@ module _ (s : Switch Plain) (a b : Paddle) (k : At s a b) where
 
 -- ---- ticks
 
-ticks-more : (n m : ℕ) (p : Paddle) → ticks n (ticks m p) ≡ ticks (n + m) p
-unfolding ticks
-ticks-more zero m p = let e : m ≡ 0 + m = omega arith in ap (λ (k : ℕ). ticks k p) e
-ticks-more (suc n) m p = let e : suc (n + m) ≡ suc n + m = omega arith in ap next (ticks-more n m p) ∙ ap (λ (k : ℕ). ticks k p) e
+ticks-more : (n m : ℕ) (p : Paddle) → paddleTicks n (paddleTicks m p) ≡ paddleTicks (n + m) p
+unfolding paddleTicks
+ticks-more zero m p = let e : m ≡ 0 + m = omega arith in ap (λ (k : ℕ). paddleTicks k p) e
+ticks-more (suc n) m p = let e : suc (n + m) ≡ suc n + m = omega arith in ap nextPaddle (ticks-more n m p) ∙ ap (λ (k : ℕ). paddleTicks k p) e
 
 -- A paddle that completes nothing in n ticks.
 abbrev Quiet : ℕ → Paddle → Type 0
-Quiet n p = (k : ℕ) → k < n → gesture (ticks k p) ≡ Nothing
+Quiet n p = (k : ℕ) → k < n → gesture (paddleTicks k p) ≡ Nothing
 
-quiet-next : (n : ℕ) (p : Paddle) → Quiet (suc n) p → Quiet n (next p)
+quiet-next : (n : ℕ) (p : Paddle) → Quiet (suc n) p → Quiet n (nextPaddle p)
 quiet-next n p q k h = ap gesture (ticks-shift k p) ∙ q (suc k) (omega arith)
 
-both-ticks : (n : ℕ) (s : Switch Plain) (a b : Paddle) → At s a b → Quiet n a → Quiet n b → At (runOf s (ticksOf n)) (ticks n a) (ticks n b)
-unfolding run ticksOf ticks
+both-ticks : (n : ℕ) (s : Switch Plain) (a b : Paddle) → At s a b → Quiet n a → Quiet n b → At (runOf s (ticksOf n)) (paddleTicks n a) (paddleTicks n b)
+unfolding run ticksOf paddleTicks
 both-ticks zero s a b k p q = k
 both-ticks (suc n) s a b k p q =
-    let on = both-ticks n (respond s (with48 tick) .next) (next a) (next b) (both-ticked s a b k (p 0 (omega arith)) (q 0 (omega arith))) (quiet-next n a p) (quiet-next n b q) in
+    let on = both-ticks n (respond s (with48 tick) .next) (nextPaddle a) (nextPaddle b) (both-ticked s a b k (p 0 (omega arith)) (q 0 (omega arith))) (quiet-next n a p) (quiet-next n b q) in
     record { paddles = on .paddles ∙ ap₂ (λ (x y : Paddle). x ∷ y ∷ []) (ticks-shift n a) (ticks-shift n b); mode = on .mode }
 
 -- A paddle that was not touched stays as it is.
-fresh-ticks : (n : ℕ) → ticks n fresh ≡ fresh
-unfolding ticks next left kept less down ends
+fresh-ticks : (n : ℕ) → paddleTicks n freshPaddle ≡ freshPaddle
+unfolding paddleTicks nextPaddle left tapsKept less down ends
 fresh-ticks zero = refl
-fresh-ticks (suc n) = ap next (fresh-ticks n)
+fresh-ticks (suc n) = ap nextPaddle (fresh-ticks n)
 
-fresh-quiet : (n : ℕ) → Quiet n fresh
+fresh-quiet : (n : ℕ) → Quiet n freshPaddle
 unfolding gesture ends completed closing down
 fresh-quiet n k h = ap gesture (fresh-ticks k)
 
@@ -109,26 +109,26 @@ pressed-quiet n hold gap taps h k under = hold-comes k Local hold gap taps ∙ r
 
 -- A tap of the bottom paddle, while the top one completes nothing.
 bottom-tap : (s : Switch Plain) (a : Paddle) (hold gap taps : ℕ) → At s a (raised hold gap taps) → Quiet 60 a
-    → At (runOf s (pressOf 60 1)) (ticks 60 a) (raised 120 180 (counted taps))
+    → At (runOf s (pressOf 60 1)) (paddleTicks 60 a) (raised 120 180 (oneTapMore taps))
 unfolding run
 bottom-tap s a hold gap taps k quiet =
     let b = raised hold gap taps in
     let down = respond s (with48 (press 1)) .next in
     let later = runOf down (ticksOf 60) in
     let on = both-ticks 60 down a (pressed Local b) (bottom-pressed s a b k) quiet (pressed-quiet 60 hold gap taps (omega arith)) in
-    let up = bottom-released later (ticks 60 a) (ticks 60 (pressed Local b)) on in
-    subst (λ (t : Switch Plain). At t (ticks 60 a) (raised 120 180 (counted taps))) (sym (run-joined down (ticksOf 60) (with48 (release 1) ∷ [])))
-    (subst (λ (p : Paddle). At (respond later (with48 (release 1)) .next) (ticks 60 a) p) (a-tap 60 Local hold gap taps (omega arith) (omega arith) .0) up)
+    let up = bottom-released later (paddleTicks 60 a) (paddleTicks 60 (pressed Local b)) on in
+    subst (λ (t : Switch Plain). At t (paddleTicks 60 a) (raised 120 180 (oneTapMore taps))) (sym (run-joined down (ticksOf 60) (with48 (release 1) ∷ [])))
+    (subst (λ (p : Paddle). At (respond later (with48 (release 1)) .next) (paddleTicks 60 a) p) (a-tap 60 Local hold gap taps (omega arith) (omega arith) .0) up)
 
 -- A tap of the top paddle of n ticks, with events in it that let n ticks pass and leave the bottom paddle as b.
 around-taps : (n : ℕ) (s : Switch Plain) (es : List Event) (hold gap taps : ℕ) (b b′ : Paddle) → 60 ≤ n → n < 180 → At s (raised hold gap taps) b
-    → At (runOf (respond s (with48 (press 0)) .next) es) (ticks n (pressed Local (raised hold gap taps))) b′
-    → At (runOf s (around es)) (raised (180 - n) 180 (counted taps)) b′
+    → At (runOf (respond s (with48 (press 0)) .next) es) (paddleTicks n (pressed Local (raised hold gap taps))) b′
+    → At (runOf s (around es)) (raised (180 - n) 180 (oneTapMore taps)) b′
 unfolding run
 around-taps n s es hold gap taps b b′ least most k inside =
     let down = respond s (with48 (press 0)) .next in
-    let up = top-released (runOf down es) (ticks n (pressed Local (raised hold gap taps))) b′ inside in
-    subst (λ (t : Switch Plain). At t (raised (180 - n) 180 (counted taps)) b′) (sym (run-joined down es (with48 (release 0) ∷ [])))
+    let up = top-released (runOf down es) (paddleTicks n (pressed Local (raised hold gap taps))) b′ inside in
+    subst (λ (t : Switch Plain). At t (raised (180 - n) 180 (oneTapMore taps)) b′) (sym (run-joined down es (with48 (release 0) ∷ [])))
     (subst (λ (p : Paddle). At (respond (runOf down es) (with48 (release 0)) .next) p b′) (a-tap n Local hold gap taps least most .0) up)
 
 module _ (s : Switch Plain) (hold gap taps : ℕ) where
@@ -136,31 +136,31 @@ module _ (s : Switch Plain) (hold gap taps : ℕ) where
   top = pressed Local (raised hold gap taps)
 
   -- Alone, over a bottom paddle that was not touched.
-  alone-taps : At s (raised hold gap taps) fresh → At (runOf s alone) (raised 120 180 (counted taps)) fresh
+  alone-taps : At s (raised hold gap taps) freshPaddle → At (runOf s tapAlone) (raised 120 180 (oneTapMore taps)) freshPaddle
   alone-taps k =
-      around-taps 60 s (ticksOf 60) hold gap taps fresh fresh (omega arith) (omega arith) k
-      (subst (At (runOf (respond s (with48 (press 0)) .next) (ticksOf 60)) (ticks 60 top)) (fresh-ticks 60)
-      (both-ticks 60 (respond s (with48 (press 0)) .next) top fresh (top-pressed s (raised hold gap taps) fresh k) (pressed-quiet 60 hold gap taps (omega arith)) (fresh-quiet 60)))
+      around-taps 60 s (ticksOf 60) hold gap taps freshPaddle freshPaddle (omega arith) (omega arith) k
+      (subst (At (runOf (respond s (with48 (press 0)) .next) (ticksOf 60)) (paddleTicks 60 top)) (fresh-ticks 60)
+      (both-ticks 60 (respond s (with48 (press 0)) .next) top freshPaddle (top-pressed s (raised hold gap taps) freshPaddle k) (pressed-quiet 60 hold gap taps (omega arith)) (fresh-quiet 60)))
 
   module _ (hold′ gap′ taps′ : ℕ) (k : At s (raised hold gap taps) (raised hold′ gap′ taps′)) where
-    once : At (runOf (respond s (with48 (press 0)) .next) (pressOf 60 1)) (ticks 60 top) (raised 120 180 (counted taps′))
+    once : At (runOf (respond s (with48 (press 0)) .next) (pressOf 60 1)) (paddleTicks 60 top) (raised 120 180 (oneTapMore taps′))
     once =
         bottom-tap (respond s (with48 (press 0)) .next) top hold′ gap′ taps′ (top-pressed s (raised hold gap taps) (raised hold′ gap′ taps′) k)
         (pressed-quiet 60 hold gap taps (omega arith))
 
     -- With a tap of the bottom in it, and with two.
-    with-one : At (runOf s withOne) (raised 120 180 (counted taps)) (raised 120 180 (counted taps′))
-    with-one = around-taps 60 s (pressOf 60 1) hold gap taps (raised hold′ gap′ taps′) (raised 120 180 (counted taps′)) (omega arith) (omega arith) k once
+    with-one : At (runOf s withOne) (raised 120 180 (oneTapMore taps)) (raised 120 180 (oneTapMore taps′))
+    with-one = around-taps 60 s (pressOf 60 1) hold gap taps (raised hold′ gap′ taps′) (raised 120 180 (oneTapMore taps′)) (omega arith) (omega arith) k once
 
-    with-two : At (runOf s withTwo) (raised 60 180 (counted taps)) (raised 120 180 (counted (counted taps′)))
+    with-two : At (runOf s withTwo) (raised 60 180 (oneTapMore taps)) (raised 120 180 (oneTapMore (oneTapMore taps′)))
     with-two =
         let down = respond s (with48 (press 0)) .next in
         let later = runOf down (pressOf 60 1) in
-        let b = raised 120 180 (counted (counted taps′)) in
+        let b = raised 120 180 (oneTapMore (oneTapMore taps′)) in
         around-taps 120 s (pressOf 60 1 ++ pressOf 60 1) hold gap taps (raised hold′ gap′ taps′) b (omega arith) (omega arith) k
-        (subst (λ (t : Switch Plain). At t (ticks 120 top) b) (sym (run-joined down (pressOf 60 1) (pressOf 60 1)))
+        (subst (λ (t : Switch Plain). At t (paddleTicks 120 top) b) (sym (run-joined down (pressOf 60 1) (pressOf 60 1)))
         (subst (λ (p : Paddle). At (runOf later (pressOf 60 1)) p b) (ticks-more 60 60 top)
-        (bottom-tap later (ticks 60 top) 120 180 (counted taps′) once
+        (bottom-tap later (paddleTicks 60 top) 120 180 (oneTapMore taps′) once
         (λ i h. ap gesture (ticks-more i 60 top) ∙ pressed-quiet 120 hold gap taps (omega arith) (i + 60) (omega arith)))))
 
 -- A run that is open completes nothing before its closing tick.
@@ -168,7 +168,7 @@ open-quiet : (hold taps : ℕ) → Quiet 179 (raised hold 180 taps)
 unfolding gesture ends down
 open-quiet hold taps k h = ap gesture (run-open k hold 180 taps (omega arith)) ∙ rw (lt-leb (180 - k) 1 (omega arith))
 
-start-at : (image : List ℕ) → At (startedFrom image) fresh fresh
+start-at : (image : List ℕ) → At (startedFrom image) freshPaddle freshPaddle
 unfolding startedFrom woken started
 start-at image = record { paddles = refl; mode = refl }
 
@@ -191,22 +191,22 @@ five-joined s a b c d e f =
     ∙ run-joined (runOf (runOf (runOf s a) b) c) d (e ++ f) ∙ run-joined (runOf (runOf (runOf (runOf s a) b) c) d) e f
 
 to-normal : (image : List ℕ) → At (runOf (startedFrom image) throughToNormal) (raised 120 1 5) (raised 120 1 2)
-unfolding counted
+unfolding oneTapMore
 to-normal image =
     let s0 = startedFrom image in
-    let s1 = runOf s0 alone in
-    let s2 = runOf s1 alone in
-    let s3 = runOf s2 alone in
+    let s1 = runOf s0 tapAlone in
+    let s2 = runOf s1 tapAlone in
+    let s3 = runOf s2 tapAlone in
     let s4 = runOf s3 withOne in
     let k1 = alone-taps s0 0 0 0 (start-at image) in
     let k2 = alone-taps s1 120 180 1 k1 in
     let k3 = alone-taps s2 120 180 2 k2 in
     let k4 = with-one s3 120 180 3 0 0 0 k3 in
     let k5 = with-one s4 120 180 4 120 180 1 k4 in
-    ready (runOf s4 withOne) _ 120 120 5 2 k5 (five-joined s0 alone alone alone withOne withOne (ticksOf 179))
+    ready (runOf s4 withOne) _ 120 120 5 2 k5 (five-joined s0 tapAlone tapAlone tapAlone withOne withOne (ticksOf 179))
 
 to-factory : (image : List ℕ) → At (runOf (startedFrom image) throughToFactory) (raised 60 1 5) (raised 120 1 10)
-unfolding counted
+unfolding oneTapMore
 to-factory image =
     let s0 = startedFrom image in
     let s1 = runOf s0 withTwo in

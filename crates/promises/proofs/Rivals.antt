@@ -7,7 +7,7 @@ use native.Mathlib.Omega.{arith}
 use lib.ListN.{length}
 use Rattle.vault.specs.Job.{Switch}
 use Rattle.vault.specs.Machine.{run}
-use Rattle.paddle.specs.Paddle.{fresh, moved, pressed}
+use Rattle.paddle.specs.Paddle.{freshPaddle, withContact, pressed}
 use Rattle.paddle.specs.declared.Paddle.{Paddle}
 use Rattle.registers.specs.Places.{size}
 use Rattle.switch.specs.Switch.{Deed, Plain, answerOf, answerWith, event, held, press, receive, tally, tick}
@@ -16,7 +16,7 @@ use Rattle.switch.specs.Respond.{respond, startedFrom}
 use Rattle.switch.specs.declared.Answer.{Answer}
 use Rattle.promises.specs.Cases.{benchImage, packetA, zeros}
 use Rattle.promises.specs.Numbers.{Unchanged, done, no-room, numberAt}
-use Rattle.promises.specs.Rivals.{Meets, OneOutcome, Reached, Rival, ShutsOut, deaf, fixed, honest, inventing, liveOf, once, refusing}
+use Rattle.promises.specs.Rivals.{Meets, OneOutcome, StoodAt, Rival, ShutsOut, deaf, fixed, honest, inventing, liveOf, once, refusing}
 use Rattle.promises.proofs.Bounds.{within-bounds}
 use Rattle.promises.proofs.Cases.{cases, has-pressed}
 use Rattle.promises.proofs.Numbers.{numbers}
@@ -39,11 +39,11 @@ ignored : Unchanged resting (event 0 tick)
 ignored = numbers .refusals resting (event 0 tick) (λ z. omega (arith, untold))
 
 -- It stands before its first event, and after one that was refused.
-at-first : Reached 0 (liveOf resting) (resting .plain .registers)
+at-first : StoodAt 0 (liveOf resting) (resting .plain .registers)
 unfolding run
 at-first = record { image = benchImage; whole = bench-size; events = []; count = refl; holds = refl }
 
-at-second : Reached 1 (liveOf resting) (resting .plain .registers)
+at-second : StoodAt 1 (liveOf resting) (resting .plain .registers)
 unfolding run
 at-second = record {
   image = benchImage;
@@ -55,7 +55,7 @@ at-second = record {
 
 module _ (r : Rival) (m : Meets r) where
   -- What it answers there.
-  numbered : (before : ℕ) (deed : Deed) (out : List ℕ) (at : Reached before (liveOf resting) (resting .plain .registers))
+  numbered : (before : ℕ) (deed : Deed) (out : List ℕ) (at : StoodAt before (liveOf resting) (resting .plain .registers))
       → r before deed (liveOf resting) (resting .plain .registers) out .answer .number ≡ numberAt resting (event (length out) deed)
   numbered before deed out at = ap (λ (a : Answer). a .number) (m before deed (liveOf resting) (resting .plain .registers) out at .answered)
 
@@ -76,10 +76,10 @@ fixed-not answer m =
 
 -- A press is not ignored: its contact is down after it.
 press-alters : resting ≡ respond resting (event 48 (press 0)) .next → ⊥
-unfolding pressed moved kindOf paddleOf
+unfolding pressed withContact kindOf paddleOf
 press-alters same =
-    let down = has-pressed 0 (omega arith) resting fresh (cases .rests 0 .two, cases .rests 0 .rests) .1 in
-    let up : paddleAt 0 (resting .plain .paddles) ≡ fresh = cases .rests 0 .rests in
+    let down = has-pressed 0 (omega arith) resting freshPaddle (cases .rests 0 .two, cases .rests 0 .rests) .1 in
+    let up : paddleAt 0 (resting .plain .paddles) ≡ freshPaddle = cases .rests 0 .rests in
     true≢false (sym (ap (λ (p : Paddle). p .local) (sym up ∙ ap (λ (t : Switch Plain). paddleAt 0 (t .plain .paddles)) same ∙ down)))
 
 deaf-not : (other : Rival) → Meets (deaf other) → ⊥

@@ -14,7 +14,7 @@ use Rattle.switch.specs.declared.Live.{Live}
 use Rattle.post.specs.Post.{placed}
 use Rattle.host.specs.Host.{inside, responded}
 use Rattle.host.specs.Keeping.{keptCounters, keptNumbers}
-use Rattle.host.specs.Mirror.{answerOf as inNumbers, liveOf}
+use Rattle.host.specs.Mirror.{inNumbers, liveFrom}
 use Rattle.host.specs.declared.Answer.{Answer as Numbers}
 use Rattle.host.proofs.Laws.{counters-length, mirrors-back, numbers-length}
 use Rattle.promises.specs.Bounds.{Sane}
@@ -57,7 +57,7 @@ after-any-calls image all a live live″ all′ all″ cs long starts calls =
 record Stands (s : Switch Plain) (counters numbers all : List ℕ) : Type 0 where
   counted : length counters ≡ 11
   numbered : length numbers ≡ 14
-  holds : held (liveOf counters numbers) all ≡ s
+  holds : held (liveFrom counters numbers) all ≡ s
 
 -- A switch that was started has two paddles, so what is kept of it stands for it.
 kept-stands : (t : Switch Plain) (counters numbers all : List ℕ) → Sane (t .plain) → length counters ≡ 11 → length numbers ≡ 14 → all ≡ t .plain .registers
@@ -69,7 +69,7 @@ kept-stands t counters numbers all sane eleven fourteen same = record {
 }
 
 spoken : (s : Switch Plain) (counters counters″ numbers numbers″ all all″ : List ℕ) (cs : List (Call Numbers)) → Sane (s .plain) → Stands s counters numbers all
-    → Spoken counters numbers all cs counters″ numbers″ all″ → Given inNumbers s cs (held (liveOf counters″ numbers″) all″)
+    → Spoken counters numbers all cs counters″ numbers″ all″ → Given inNumbers s cs (held (liveFrom counters″ numbers″) all″)
 spoken s counters counters″ numbers numbers″ all all″ cs sane k (silent _ _ _) = given-none inNumbers s _ (k .holds)
 spoken s counters counters″ numbers numbers″ all all″ cs sane k (said c cs′ _ counters′ _ _ numbers′ _ _ all′ _ meets rest) =
     let t = respond s (eventOf (c .lent)) in

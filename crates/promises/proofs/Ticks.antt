@@ -9,7 +9,7 @@ use lib.Dec.{eqb}
 use lib.ListN.{getD, length}
 use lib.Seq.{getD-set-other, set-set}
 use Rattle.words.proofs.Laws.{both, three-ways, two-ways}
-use Rattle.timers.specs.Timers.{beats, beatsBy, turned as turnedAround, less, lessBy, turnedBy}
+use Rattle.timers.specs.Timers.{beats, beatsBy, metronome, less, lessBy, metronomeBy}
 use Rattle.timers.proofs.Laws.{beats-more, beats-none, turned-more, turned-none}
 use Rattle.units.specs.Units.{percentOf}
 use Rattle.units.specs.declared.Percent.{Percent}
@@ -23,12 +23,12 @@ use Rattle.vault.specs.declared.Password.{Password}
 use Rattle.dimmer.specs.Dimmer.{ticked, tickedBy}
 use Rattle.dimmer.specs.declared.Dimmer.{Dimmer}
 use Rattle.dimmer.proofs.Laws.{ticked-more, ticked-none}
-use Rattle.lamp.specs.Lamp.{next as lampTicked}
-use Rattle.lamp.specs.Promises.{skip as lampAfter}
+use Rattle.lamp.specs.Lamp.{nextLamp}
+use Rattle.lamp.specs.Promises.{lampSkip}
 use Rattle.lamp.specs.declared.Lamp.{Lamp}
 use Rattle.lamp.proofs.Laws.{output-plain, skip-more, skip-none}
-use Rattle.paddle.specs.Paddle.{down, fresh, gesture, next, none}
-use Rattle.paddle.specs.Promises.{due, raised, skip as paddleBy, ticks, wait, waitFor}
+use Rattle.paddle.specs.Paddle.{down, freshPaddle, gesture, nextPaddle, completesNothing}
+use Rattle.paddle.specs.Promises.{due, raised, paddleSkip, paddleTicks, wait, waitFor}
 use Rattle.paddle.specs.declared.Gesture.the-variants.{Nothing}
 use Rattle.paddle.specs.declared.Paddle.{Paddle}
 use Rattle.paddle.proofs.Laws as paddle
@@ -40,7 +40,7 @@ use Rattle.acts.specs.Core.{aged, core, saveTicks, saved, toSave}
 use Rattle.acts.specs.declared.Core.{Core}
 use Rattle.switch.specs.Switch.{Event, Plain, Shown, answerOf, answerWith, event, plain, tally, tick}
 use Rattle.switch.specs.Paddles.{after, followed, over}
-use Rattle.switch.specs.Events.{begun, finished, job, paddleAt, paddleOf, signalledBy, ticking}
+use Rattle.switch.specs.Events.{begun, finished, job, paddleAt, paddleOf, signalledBy, jobOfTick}
 use Rattle.switch.specs.Code.{quiet}
 use Rattle.switch.specs.Respond.{respond, wallSwitch}
 use Rattle.switch.proofs.Quick.{plainly, turns-quiet}
@@ -50,16 +50,16 @@ use Rattle.promises.proofs.Jobs.{tick-job}
 -- ---- runs of ticks
 
 -- A paddle of the list, one tick later.
-pub next-at : (l : List Paddle) (i : ℕ) → i < length l → getD (map next l) i fresh ≡ next (getD l i fresh)
+pub next-at : (l : List Paddle) (i : ℕ) → i < length l → getD (map nextPaddle l) i freshPaddle ≡ nextPaddle (getD l i freshPaddle)
 next-at [] i h = absurd (omega arith)
 next-at (p ∷ l) zero h = refl
 next-at (p ∷ l) (suc i) h = next-at l i (omega arith)
 
 -- One tick more at the front.
-pub ticks-shift : (n : ℕ) (p : Paddle) → ticks n (next p) ≡ ticks (suc n) p
-unfolding ticks
+pub ticks-shift : (n : ℕ) (p : Paddle) → paddleTicks n (nextPaddle p) ≡ paddleTicks (suc n) p
+unfolding paddleTicks
 ticks-shift zero p = refl
-ticks-shift (suc n) p = ap next (ticks-shift n p)
+ticks-shift (suc n) p = ap nextPaddle (ticks-shift n p)
 
 -- Two runs, one after the other.
 pub run-joined : (s : Switch Plain) (es fs : List Event) → runOf s (es ++ fs) ≡ runOf (runOf s es) fs
@@ -97,10 +97,10 @@ ticks-shown see f (suc n) s each =
 
 -- All but the password after it: timers, dimmer and paddles run, and where the metronome beats the percent goes to 0xF9.
 abbrev pub tickedCore : Core → Core
-tickedCore c = core (c .mode) (ticked (c .dimmer)) (lampTicked (c .lamp)) (turnedAround saveTicks (c .save))
+tickedCore c = core (c .mode) (ticked (c .dimmer)) (nextLamp (c .lamp)) (metronome saveTicks (c .save))
 
 abbrev pub tickedPlain : Plain → Plain
-tickedPlain p = plain (applied (toSave (aged (p .core))) [] (p .registers)) (tickedCore (p .core)) (map next (p .paddles))
+tickedPlain p = plain (applied (toSave (aged (p .core))) [] (p .registers)) (tickedCore (p .core)) (map nextPaddle (p .paddles))
 
 -- Saving the level leaves the password alone.
 pub save-keeps : (c : Core) → changeOf (toSave c) [] ≡ nothing
@@ -109,7 +109,7 @@ save-keeps c = both (λ (w : Write). change (changeAt w [] firstPlace) (changeAt
 
 pub quiet-tick : (s : Switch Plain) (room : ℕ) → 48 ≤ room → quiet (s .plain .paddles) ≡ true
     → respond s (event room tick) ≡ plainly (tickedPlain (s .plain)) (s .password)
-unfolding Product.respond settled ticking after followed over finished signalledBy saved aged changed became
+unfolding Product.responseOf settled jobOfTick after followed over finished signalledBy saved aged changed became
 quiet-tick s room enough still =
     rw (tick-job (s .plain) room enough, turns-quiet (s .plain .paddles) 0 (begun (s .plain) (aged (s .plain .core))) still, save-keeps (aged (s .plain .core)))
 
@@ -140,17 +140,17 @@ registersAfter zero p = p .registers
 registersAfter (suc n) p = applied (toSave (aged (coreBy n (p .core)))) [] (registersAfter n p)
 
 abbrev pub plainAfter : ℕ → Plain → Plain
-plainAfter n p = plain (registersAfter n p) (coreBy n (p .core)) (map (ticks n) (p .paddles))
+plainAfter n p = plain (registersAfter n p) (coreBy n (p .core)) (map (paddleTicks n) (p .paddles))
 
-no-ticks : (ps : List Paddle) → map (ticks 0) ps ≡ ps
-unfolding ticks
+no-ticks : (ps : List Paddle) → map (paddleTicks 0) ps ≡ ps
+unfolding paddleTicks
 no-ticks [] = refl
 no-ticks (p ∷ ps) = ap (λ (l : List Paddle). p ∷ l) (no-ticks ps)
 
-one-more : (n : ℕ) (ps : List Paddle) → map next (map (ticks n) ps) ≡ map (ticks (suc n)) ps
-unfolding ticks
+one-more : (n : ℕ) (ps : List Paddle) → map nextPaddle (map (paddleTicks n) ps) ≡ map (paddleTicks (suc n)) ps
+unfolding paddleTicks
 one-more n [] = refl
-one-more n (p ∷ ps) = ap (λ (l : List Paddle). next (ticks n p) ∷ l) (one-more n ps)
+one-more n (p ∷ ps) = ap (λ (l : List Paddle). nextPaddle (paddleTicks n p) ∷ l) (one-more n ps)
 
 after-none : (p : Plain) → plainAfter 0 p ≡ p
 unfolding registersAfter
@@ -167,7 +167,7 @@ after-more n p =
 
 -- No paddle of the list completes a gesture in the next n ticks.
 abbrev pub Quiet : ℕ → List Paddle → Type 0
-Quiet n ps = (k : ℕ) → k < n → quiet (map (ticks k) ps) ≡ true
+Quiet n ps = (k : ℕ) → k < n → quiet (map (paddleTicks k) ps) ≡ true
 
 pub after-ticks : (n : ℕ) (s : Switch Plain) → Quiet n (s .plain .paddles) → runOf s (ticksOf n) ≡ switch (plainAfter n (s .plain)) (s .password)
 unfolding run ticksOf
@@ -210,8 +210,8 @@ unfolding applied stored
 save-again v w all = set-set all savedPlace (v .0) (w .0)
 
 -- A metronome that has beaten is within its period.
-beaten-below : (n save : ℕ) → (beatsBy n saveTicks save ≡ 0 → ⊥) → turnedBy n saveTicks save ≤ 479
-unfolding beatsBy turnedBy less
+beaten-below : (n save : ℕ) → (beatsBy n saveTicks save ≡ 0 → ⊥) → metronomeBy n saveTicks save ≤ 479
+unfolding beatsBy metronomeBy less
 beaten-below n save beaten =
     two-ways save n (λ h. rw (lt-ltb save n h) (omega arith)) (λ h. absurd (beaten (rw (le-ltb save n h))))
 
@@ -221,26 +221,26 @@ savedAt m p = applied (Save (percentOf (tickedBy m (p .core .dimmer) .level))) [
 
 -- One tick more: it saves its own level, or leaves what was saved.
 module _ (n : ℕ) (p : Plain) where
-  saves : beats (turnedBy n saveTicks (p .core .save)) ≡ true → applied (toSave (aged (coreBy n (p .core)))) [] (registersBy n p) ≡ registersBy (suc n) p
-  unfolding toSave aged registersBy turnedAround less
+  saves : beats (metronomeBy n saveTicks (p .core .save)) ≡ true → applied (toSave (aged (coreBy n (p .core)))) [] (registersBy n p) ≡ registersBy (suc n) p
+  unfolding toSave aged registersBy metronome less
   saves beat =
       let save = p .core .save in
       let now = percentOf (ticked (tickedBy n (p .core .dimmer)) .level) in
       let more : beatsBy (suc n) saveTicks save ≡ beatsBy n saveTicks save + 1 = beats-more n saveTicks save ∙ rw beat in
-      let around : turnedBy (suc n) saveTicks save ≡ 479 = sym (turned-more n saveTicks save) ∙ rw beat in
-      let at : suc n ≡ suc n - (479 - turnedBy (suc n) saveTicks save) = omega arith in
+      let around : metronomeBy (suc n) saveTicks save ≡ 479 = sym (turned-more n saveTicks save) ∙ rw beat in
+      let at : suc n ≡ suc n - (479 - metronomeBy (suc n) saveTicks save) = omega arith in
       let first : applied (toSave (aged (coreBy n (p .core)))) [] (registersBy n p) ≡ applied (Save now) [] (p .registers) =
       rw beat (both (λ (all : List ℕ). applied (Save now) [] all ≡ applied (Save now) [] (p .registers)) (eqb (beatsBy n saveTicks save) 0) refl (save-again _ now (p .registers))) in
-      let second : registersBy (suc n) p ≡ savedAt (suc n - (479 - turnedBy (suc n) saveTicks save)) p = rw (ne-eqb (beatsBy (suc n) saveTicks save) 0 (λ e. omega arith)) in
+      let second : registersBy (suc n) p ≡ savedAt (suc n - (479 - metronomeBy (suc n) saveTicks save)) p = rw (ne-eqb (beatsBy (suc n) saveTicks save) 0 (λ e. omega arith)) in
       first ∙ ap (λ (d : Dimmer). applied (Save (percentOf (d .level))) [] (p .registers)) (ticked-more n (p .core .dimmer)) ∙ ap (λ (m : ℕ). savedAt m p) at ∙ sym second
 
-  saves-not : beats (turnedBy n saveTicks (p .core .save)) ≡ false → applied (toSave (aged (coreBy n (p .core)))) [] (registersBy n p) ≡ registersBy (suc n) p
-  unfolding toSave aged registersBy turnedAround less applied
+  saves-not : beats (metronomeBy n saveTicks (p .core .save)) ≡ false → applied (toSave (aged (coreBy n (p .core)))) [] (registersBy n p) ≡ registersBy (suc n) p
+  unfolding toSave aged registersBy metronome less applied
   saves-not quiet =
       let save = p .core .save in
-      let left = turnedBy n saveTicks save in
+      let left = metronomeBy n saveTicks save in
       let same : beatsBy (suc n) saveTicks save ≡ beatsBy n saveTicks save = beats-more n saveTicks save ∙ rw quiet in
-      let around : turnedBy (suc n) saveTicks save ≡ left - 1 = sym (turned-more n saveTicks save) ∙ rw quiet in
+      let around : metronomeBy (suc n) saveTicks save ≡ left - 1 = sym (turned-more n saveTicks save) ∙ rw quiet in
       let some : left ≡ 0 → ⊥ = eqb-false left 0 quiet in
       rw quiet
       (three-ways (beatsBy n saveTicks save) 0
@@ -248,23 +248,23 @@ module _ (n : ℕ) (p : Plain) where
       (λ h. rw (eq-eqb (beatsBy n saveTicks save) 0 h, eq-eqb (beatsBy (suc n) saveTicks save) 0 (same ∙ h)))
       (λ h.
       let below : left ≤ 479 = beaten-below n save (λ e. omega arith) in
-      let at : n - (479 - left) ≡ suc n - (479 - turnedBy (suc n) saveTicks save) = omega arith in
+      let at : n - (479 - left) ≡ suc n - (479 - metronomeBy (suc n) saveTicks save) = omega arith in
       rw (ne-eqb (beatsBy n saveTicks save) 0 (λ e. omega arith), ne-eqb (beatsBy (suc n) saveTicks save) 0 (λ e. omega arith)) (ap (λ (m : ℕ). savedAt m p) at)))
 
 -- So they are, tick by tick.
 registers-by : (n : ℕ) (p : Plain) → registersAfter n p ≡ registersBy n p
 unfolding registersAfter registersBy
 registers-by zero p = rw (beats-none saveTicks (p .core .save))
-registers-by (suc n) p = ap (λ (all : List ℕ). applied (toSave (aged (coreBy n (p .core)))) [] all) (registers-by n p) ∙ go (beats (turnedBy n saveTicks (p .core .save))) refl
+registers-by (suc n) p = ap (λ (all : List ℕ). applied (toSave (aged (coreBy n (p .core)))) [] all) (registers-by n p) ∙ go (beats (metronomeBy n saveTicks (p .core .save))) refl
   where
-    go : (b : Bool) → beats (turnedBy n saveTicks (p .core .save)) ≡ b → applied (toSave (aged (coreBy n (p .core)))) [] (registersBy n p) ≡ registersBy (suc n) p
+    go : (b : Bool) → beats (metronomeBy n saveTicks (p .core .save)) ≡ b → applied (toSave (aged (coreBy n (p .core)))) [] (registersBy n p) ≡ registersBy (suc n) p
     go true e = saves n p e
     go false e = saves-not n p e
 
 -- ---- a switch that is left to itself
 
-quiet-each : (k : ℕ) (ps : List Paddle) → ((i : ℕ) → i < length ps → gesture (ticks k (getD ps i fresh)) ≡ Nothing) → quiet (map (ticks k) ps) ≡ true
-unfolding quiet none
+quiet-each : (k : ℕ) (ps : List Paddle) → ((i : ℕ) → i < length ps → gesture (paddleTicks k (getD ps i freshPaddle)) ≡ Nothing) → quiet (map (paddleTicks k) ps) ≡ true
+unfolding quiet completesNothing
 quiet-each k [] each = refl
 quiet-each k (p ∷ ps) each = rw (each 0 (omega arith)) (quiet-each k ps (λ i h. each (suc i) (omega arith)))
 
@@ -272,15 +272,15 @@ pub silent-quiet : (n : ℕ) (s : Switch Plain) → length (s .plain .paddles) �
 unfolding paddleOf
 silent-quiet n s two silent k h = quiet-each k (s .plain .paddles) (λ i under. at i (omega arith))
   where
-    at : (i : ℕ) → i < 2 → gesture (ticks k (getD (s .plain .paddles) i fresh)) ≡ Nothing
-    at i under = let e : i % 2 ≡ i = omega arith in ap (λ (j : ℕ). gesture (ticks k (getD (s .plain .paddles) j fresh))) (sym e) ∙ silent i k h
+    at : (i : ℕ) → i < 2 → gesture (paddleTicks k (getD (s .plain .paddles) i freshPaddle)) ≡ Nothing
+    at i under = let e : i % 2 ≡ i = omega arith in ap (λ (j : ℕ). gesture (paddleTicks k (getD (s .plain .paddles) j freshPaddle))) (sym e) ∙ silent i k h
 
 -- The tick after n ticks is the one of number n + 1.
 pub nth : (C : Shown → Type 0) (n : ℕ) (s : Switch Plain) → C (nextTick (runOf s (ticksOf n))) → C (nthTick s (suc n))
 nth C n s shown = let e : suc n - 1 ≡ n = omega arith in subst (λ (k : ℕ). C (nextTick (runOf s (ticksOf k)))) (sym e) shown
 
 -- Its ticks at once.
-by-one-and-all : (n : ℕ) (ps : List Paddle) → map (ticks n) ps ≡ map (paddleBy n) ps
+by-one-and-all : (n : ℕ) (ps : List Paddle) → map (paddleTicks n) ps ≡ map (paddleSkip n) ps
 by-one-and-all n [] = refl
 by-one-and-all n (p ∷ ps) = ap₂ (λ (q : Paddle) (qs : List Paddle). q ∷ qs) (sym (paddle.skip-ticks n p)) (by-one-and-all n ps)
 
@@ -290,12 +290,12 @@ ticks-at-once s n two silent =
     ∙ ap₂ (λ (all : List ℕ) (ps : List Paddle). switch (plain all (coreBy n (s .plain .core)) ps) (s .password)) (registers-by n (s .plain)) (by-one-and-all n (s .plain .paddles))
 
 -- A flash that is over stays over.
-pub steady-next : (l : Lamp) → l .flash ≡ 0 → lampTicked l .flash ≡ 0
-unfolding lampTicked less
+pub steady-next : (l : Lamp) → l .flash ≡ 0 → nextLamp l .flash ≡ 0
+unfolding nextLamp less
 steady-next l over = omega arith
 
-no-flash : (n : ℕ) (l : Lamp) → l .flash ≡ 0 → lampAfter n l .flash ≡ 0
-unfolding lampAfter lessBy
+no-flash : (n : ℕ) (l : Lamp) → l .flash ≡ 0 → lampSkip n l .flash ≡ 0
+unfolding lampSkip lessBy
 no-flash n l over = omega arith
 
 pub left-to-itself : LeftToItself
@@ -305,12 +305,12 @@ left-to-itself s (suc n) two steady silent some =
     (plainly-shows (runOf s (ticksOf n)) (with48 tick) (plainAfter (suc n) (s .plain)) (s .password) (tick-after n s (silent-quiet (suc n) s two silent)) (no-flash (suc n) (s .plain .core .lamp) steady))
 
 -- A paddle that is up with no tap counted.
-pub untapped : (k hold gap : ℕ) → gesture (ticks k (raised hold gap 0)) ≡ Nothing
+pub untapped : (k hold gap : ℕ) → gesture (paddleTicks k (raised hold gap 0)) ≡ Nothing
 unfolding wait waitFor down due
 untapped k hold gap = paddle.quiet k (raised hold gap 0) refl
 
 pub up-untapped : (p : Paddle) → down p ≡ false → p .taps ≡ 0 → p ≡ raised (p .hold) (p .gap) 0
-up-untapped p up none = paddle.up-raised p up ∙ ap (λ (taps : ℕ). raised (p .hold) (p .gap) taps) none
+up-untapped p up completesNothing = paddle.up-raised p up ∙ ap (λ (taps : ℕ). raised (p .hold) (p .gap) taps) completesNothing
 
 -- A switch whose paddles are left as they were is still at rest, where it does not flash.
 pub rest-as : (s t : Switch Plain) → t .plain .paddles ≡ s .plain .paddles → Steady t → AtRest s → AtRest t
@@ -323,10 +323,10 @@ rest-as s t same steady rest = record {
 
 pub rest-is-silent : RestIsSilent
 rest-is-silent s n rest contact k h =
-    ap (λ (p : Paddle). gesture (ticks k p)) (up-untapped _ (rest .up contact) (rest .untapped contact)) ∙ untapped k _ _
+    ap (λ (p : Paddle). gesture (paddleTicks k p)) (up-untapped _ (rest .up contact) (rest .untapped contact)) ∙ untapped k _ _
 
 room-to-spare : RoomToSpare
-unfolding Product.respond job
+unfolding Product.responseOf job
 room-to-spare s room d enough = rw (le-ltb room 48 enough)
 
 -- All of it.

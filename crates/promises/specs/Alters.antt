@@ -44,14 +44,14 @@ pub record Writing : Type 0 where
 abbrev pub writing : Write → List ℕ → Writing
 writing write values = record { write = write; values = values }
 
-abbrev pub alone : Write → Writing
-alone write = writing write []
+abbrev pub bare : Write → Writing
+bare write = writing write []
 
 -- "top paddle, bottom paddle": what each gesture of a tick writes in the mode that it finds; the next one finds the mode that it leaves.
 -- `writes` has the modes: five taps in Normal count in 0xFA, ten taps in Setup set the factory values, and nothing else writes.
 unfoldable pub byPaddles : Mode → List Paddle → List Writing
 byPaddles mode [] = []
-byPaddles mode (p ∷ ps) = alone (writes mode (gesture p)) ∷ byPaddles (leads mode (gesture p)) ps
+byPaddles mode (p ∷ ps) = bare (writes mode (gesture p)) ∷ byPaddles (leads mode (gesture p)) ps
 
 -- "every 480th tick since start or restart the percent goes to 0xF9": of the level that the tick leaves.
 unfoldable pub bySaving : ℕ → Step → Write
@@ -60,7 +60,7 @@ bySaving save level = if eqb save 0 then Save (percentOf level) else Nothing
 -- A packet that is accepted: Start Setup counts in 0xFA where its guess is right, Set Registers writes its values, Store Preset the percent.
 unfoldable pub byOrder : Switch Plain → Order → List ℕ → List Writing
 byOrder s (order.Refused n) values = []
-byOrder s (order.Open guess) values = if matches (s .password) guess then alone (Count Setups) ∷ [] else []
+byOrder s (order.Open guess) values = if matches (s .password) guess then bare (Count Setups) ∷ [] else []
 byOrder s order.Close values = []
 byOrder s (order.Get first count) values = []
 byOrder s (order.Set first) values = writing (Values first) values ∷ []
@@ -70,7 +70,7 @@ byOrder s (order.Goto level rate) values = []
 byOrder s order.Stop values = []
 byOrder s (order.Blink value) values = []
 byOrder s order.Report values = []
-byOrder s (order.Store i) values = alone (Preset i (percentOf (s .plain .core .dimmer .level))) ∷ []
+byOrder s (order.Store i) values = bare (Preset i (percentOf (s .plain .core .dimmer .level))) ∷ []
 
 unfoldable pub byFrame : Switch Plain → Frame → List ℕ → List Writing
 byFrame s (frame.Read h) message = byOrder s (judged (s .plain .registers) (s .plain .core .mode) h message) (drop 2 message)
@@ -84,9 +84,9 @@ byFrame s frame.Reserved message = []
 unfoldable pub byDeed : Switch Plain → Step → Deed → List Writing
 byDeed s level (press contact) = []
 byDeed s level (release contact) = []
-byDeed s level tick = byPaddles (s .plain .core .mode) (s .plain .paddles) ++ (alone (bySaving (s .plain .core .save) level) ∷ [])
+byDeed s level tick = byPaddles (s .plain .core .mode) (s .plain .paddles) ++ (bare (bySaving (s .plain .core .save) level) ∷ [])
 byDeed s level (receive bytes) = byFrame s (readOf bytes) (messageOf bytes)
-byDeed s level restart = alone (Count Restarts) ∷ []
+byDeed s level restart = bare (Count Restarts) ∷ []
 
 -- All that an event writes, in order.
 unfoldable pub writesOf : Switch Plain → Event → List Writing
@@ -118,13 +118,13 @@ OthersStay = (s : Switch Plain) (e : Event) (place : ℕ) → Sane (s .plain) �
 
 -- The table: each write, and the one thing that can cause it.
 pub data Cause (s : Switch Plain) : Deed → Writing → Type 0 where
-  no-write : Cause s tick (alone Nothing)
-  restarted : Cause s restart (alone (Count Restarts))
-  saved : (percent : Percent) → s .plain .core .save ≡ 0 → Cause s tick (alone (Save percent))
-  five-taps : (d : Deed) → ByFiveTaps s d → Cause s d (alone (Count Setups))
-  ten-taps : (i : ℕ) → Closes s i Setup 10 → Cause s tick (alone Factory)
-  right-guess : (d : Deed) → ByPassword s d → Cause s d (alone (Count Setups))
-  stored : (bytes : List ℕ) (i : ℕ) → Asks s bytes (order.Store i) → Cause s (receive bytes) (alone (Preset i (percentOf (s .plain .core .dimmer .level))))
+  no-write : Cause s tick (bare Nothing)
+  restarted : Cause s restart (bare (Count Restarts))
+  saved : (percent : Percent) → s .plain .core .save ≡ 0 → Cause s tick (bare (Save percent))
+  five-taps : (d : Deed) → ByFiveTaps s d → Cause s d (bare (Count Setups))
+  ten-taps : (i : ℕ) → Closes s i Setup 10 → Cause s tick (bare Factory)
+  right-guess : (d : Deed) → ByPassword s d → Cause s d (bare (Count Setups))
+  stored : (bytes : List ℕ) (i : ℕ) → Asks s bytes (order.Store i) → Cause s (receive bytes) (bare (Preset i (percentOf (s .plain .core .dimmer .level))))
   set : (bytes : List ℕ) (first : ℕ) → Asks s bytes (order.Set first) → Cause s (receive bytes) (writing (Values first) (drop 2 (messageOf bytes)))
 
 abbrev pub OnlyCauses : Type 0

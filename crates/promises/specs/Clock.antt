@@ -3,7 +3,7 @@ use mathlib.Core.List.{List}
 use mathlib.Core.Path.{_≡_}
 use Prim.Native.Nat.{ℕ, _≤_}
 use Rattle.vault.specs.Job.{Switch}
-use Rattle.paddle.specs.Paddle.{fresh}
+use Rattle.paddle.specs.Paddle.{freshPaddle}
 use Rattle.paddle.specs.Promises.{Same, raised}
 use Rattle.switch.specs.Switch.{Event, Plain, event, restart}
 use Rattle.switch.specs.Events.{paddleAt}
@@ -33,7 +33,7 @@ RestartForgetsForGood =
 abbrev pub TicksBeforeAPress : Type 0
 TicksBeforeAPress =
     (s : Switch Plain) (contact n hold gap : ℕ) → Sane (s .plain) → paddleAt contact (s .plain .paddles) ≡ raised hold gap 0
-    → Same (paddleAfter s contact (ticksOf n)) fresh
+    → Same (paddleAfter s contact (ticksOf n)) freshPaddle
 
 pub record Clock : Type 0 where
   pub restart : RestartIsStart

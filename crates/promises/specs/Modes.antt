@@ -5,7 +5,7 @@ use Prim.Native.Nat.{ℕ, zero, suc, _≤_, _<_}
 use lib.ListN.{length, getD, take}
 use Rattle.vault.specs.Job.{Switch}
 use Rattle.vault.specs.declared.Mode.{Mode}
-use Rattle.paddle.specs.Paddle.{fresh, gesture}
+use Rattle.paddle.specs.Paddle.{freshPaddle, gesture}
 use Rattle.paddle.specs.declared.Gesture.the-variants.{Taps}
 use Rattle.paddle.specs.declared.Paddle.{Paddle}
 use Rattle.acts.specs.Core.{aged}
@@ -32,5 +32,5 @@ pub record FindsModes : Type 0 where
 -- At a tick, paddle i closes a run of so many taps, and finds this mode.
 pub record Closes (s : Switch Plain) (i : ℕ) (mode : Mode) (count : ℕ) : Type 0 where
   pub there : i < length (s .plain .paddles)
-  pub taps : gesture (getD (s .plain .paddles) i fresh) ≡ Taps count
+  pub taps : gesture (getD (s .plain .paddles) i freshPaddle) ≡ Taps count
   pub finds : modeAt s i ≡ mode

@@ -9,7 +9,7 @@ use lib.ListN.{length}
 use Rattle.words.specs.Words.{if_then_else_}
 use Rattle.vault.specs.Job.{Switch, switch}
 use Rattle.lamp.specs.declared.Colour.the-variants.{Black}
-use Rattle.packet.specs.Promises.{Given, Sound}
+use Rattle.packet.specs.Promises.{Reads, Sound}
 use Rattle.packet.specs.Reading.{messageOf}
 use Rattle.packet.specs.declared.Frame.the-variants.{Short, Long, Length, Sum, Reserved}
 use Rattle.packet.specs.declared.Header.{Header}
@@ -40,11 +40,11 @@ pub record Asks (s : Switch Plain) (bytes : List ℕ) (o : Order) : Type 0 where
 -- The rows 4 to 14 for a received packet: the row's condition, and none of an earlier row. 4 to 8 are the reader's rows, 9 to 13 those of
 -- the judgement of a packet that passes them, and 14 is "Start Setup with a wrong password" that passes all of 4 to 13.
 pub data PacketRefused (s : Switch Plain) (bytes : List ℕ) : ℕ → Type 0 where
-  too-short : Given Short bytes → PacketRefused s bytes 4
-  too-long : Given Long bytes → PacketRefused s bytes 5
-  wrong-length : Given Length bytes → PacketRefused s bytes 6
-  wrong-sum : Given Sum bytes → PacketRefused s bytes 7
-  reserved-bit : Given Reserved bytes → PacketRefused s bytes 8
+  too-short : Reads Short bytes → PacketRefused s bytes 4
+  too-long : Reads Long bytes → PacketRefused s bytes 5
+  wrong-length : Reads Length bytes → PacketRefused s bytes 6
+  wrong-sum : Reads Sum bytes → PacketRefused s bytes 7
+  reserved-bit : Reads Reserved bytes → PacketRefused s bytes 8
   not-accepted : (h : Header) (n : ℕ) → Sound bytes h → Refusal (s .plain .registers) (s .plain .core .mode) h (messageOf bytes) n → PacketRefused s bytes n
   wrong-password : (guess : Password) → Asks s bytes (order.Open guess) → (s .password ≡ guess → ⊥) → PacketRefused s bytes 14
 
@@ -102,13 +102,13 @@ pub record StartExactly : Type 0 where
 abbrev pub blackened : Switch Plain → Switch Plain
 blackened s = switch (plain (s .plain .registers) (signalled Black (s .plain .core)) (s .plain .paddles)) (s .password)
 
-abbrev pub garbled : ℕ → Bool
-garbled n = leb 4 n && leb n 8
+abbrev pub isGarbled : ℕ → Bool
+isGarbled n = leb 4 n && leb n 8
 
 -- "A refusal changes no byte of a buffer and nothing of the switch, except the lamp blink below for 4 to 8." "On a refusal count and
 -- lengths are 0 and the rest shows the switch as it stands."
 pub record Unchanged (s : Switch Plain) (e : Event) : Type 0 where
-  pub next : respond s e .next ≡ (if garbled (numberAt s e) then blackened s else s)
+  pub next : respond s e .next ≡ (if isGarbled (numberAt s e) then blackened s else s)
   pub sent : respond s e .shown .sent ≡ []
   pub bytes : (out : List ℕ) → placed (respond s e .shown .sent) out ≡ out
   pub answer : respond s e .shown .answer ≡ answerOf (numberAt s e) [] (respond s e .next .plain)

@@ -13,12 +13,12 @@ use Rattle.vault.specs.Job.{Switch}
 use Rattle.vault.specs.Vault.{inSetup}
 use Rattle.vault.specs.declared.Mode.{Mode}
 use Rattle.vault.specs.declared.Mode.the-variants.{Normal, Setup, Factory}
-use Rattle.paddle.specs.Paddle.{fresh, gesture}
+use Rattle.paddle.specs.Paddle.{freshPaddle, gesture}
 use Rattle.paddle.specs.declared.Gesture.{Gesture}
 use Rattle.paddle.specs.declared.Gesture.the-variants as gestures
 use Rattle.paddle.specs.declared.Paddle.{Paddle}
 use Rattle.registers.specs.Places.{counterPlace, savedPlace, size}
-use Rattle.registers.specs.Write.{byteAfter, counted}
+use Rattle.registers.specs.Write.{byteAfter, oneMore}
 use Rattle.registers.specs.declared.places.Counter.the-variants.{Setups}
 use Rattle.registers.specs.declared.write.Write.the-variants as write
 use Rattle.acts.specs.Gestures.{leads}
@@ -50,9 +50,9 @@ resets Setup g = closed 10 g
 resets Factory g = false
 
 -- How many gestures of a tick enter Setup, and whether one sets the factory values.
-unfoldable pub entries : Mode → List Paddle → ℕ
-entries mode [] = 0
-entries mode (p ∷ ps) = (if opens mode (gesture p) then 1 else 0) + entries (leads mode (gesture p)) ps
+unfoldable pub openings : Mode → List Paddle → ℕ
+openings mode [] = 0
+openings mode (p ∷ ps) = (if opens mode (gesture p) then 1 else 0) + openings (leads mode (gesture p)) ps
 
 unfoldable pub reset : Mode → List Paddle → Bool
 reset mode [] = false
@@ -61,13 +61,13 @@ reset mode (p ∷ ps) = resets mode (gesture p) || reset (leads mode (gesture p)
 -- So many more in a counter, which stops at 255.
 unfoldable pub countedBy : ℕ → ℕ → ℕ
 countedBy zero old = old
-countedBy (suc n) old = countedBy n (counted old)
+countedBy (suc n) old = countedBy n (oneMore old)
 
 -- The byte of a place after a tick that leaves this level: 0xFA counts the entries, 0xF9 has the percent where the tick saves, and every
 -- other place has its factory value where a gesture sets them, or the byte that it had.
 unfoldable pub tickedByte : Switch Plain → Step → ℕ → ℕ → ℕ
 tickedByte s level place old =
-    if eqb place (counterPlace Setups) then countedBy (entries (s .plain .core .mode) (s .plain .paddles)) old
+    if eqb place (counterPlace Setups) then countedBy (openings (s .plain .core .mode) (s .plain .paddles)) old
     else if eqb place savedPlace then (if eqb (s .plain .core .save) 0 then percentOf level .0 else old)
     else if reset (s .plain .core .mode) (s .plain .paddles) then byteAfter write.Factory [] place old
     else old
@@ -112,13 +112,13 @@ UnseenExactly =
 
 -- Each of them counts in 0xFA.
 abbrev pub UnseenCounts : Type 0
-UnseenCounts = (s : Switch Plain) → PassesUnseen s → 1 ≤ entries (s .plain .core .mode) (s .plain .paddles)
+UnseenCounts = (s : Switch Plain) → PassesUnseen s → 1 ≤ openings (s .plain .core .mode) (s .plain .paddles)
 
 -- With a top and a bottom paddle: five taps of the top, and two or ten of the bottom that close at the same tick.
 pub record BothClose (s : Switch Plain) (count : ℕ) : Type 0 where
   pub mode : s .plain .core .mode ≡ Normal
-  pub top : gesture (getD (s .plain .paddles) 0 fresh) ≡ gestures.Taps 5
-  pub bottom : gesture (getD (s .plain .paddles) 1 fresh) ≡ gestures.Taps count
+  pub top : gesture (getD (s .plain .paddles) 0 freshPaddle) ≡ gestures.Taps 5
+  pub bottom : gesture (getD (s .plain .paddles) 1 freshPaddle) ≡ gestures.Taps count
 
 abbrev pub OfTwoPaddles : Type 0
 OfTwoPaddles = (s : Switch Plain) → Sane (s .plain) → PassesUnseen s ↔ (BothClose s 2 ⊎ BothClose s 10)
@@ -129,8 +129,8 @@ around es = with48 (press 0) ∷ (es ++ with48 (release 0) ∷ [])
 
 -- .. three of them alone and two with a tap of the bottom in each, or five with two of the bottom in each; then the ticks before the one
 -- that closes both runs.
-abbrev pub alone : List Event
-alone = around (ticksOf 60)
+abbrev pub tapAlone : List Event
+tapAlone = around (ticksOf 60)
 
 abbrev pub withOne : List Event
 withOne = around (pressOf 60 1)
@@ -139,7 +139,7 @@ abbrev pub withTwo : List Event
 withTwo = around (pressOf 60 1 ++ pressOf 60 1)
 
 abbrev pub throughToNormal : List Event
-throughToNormal = alone ++ (alone ++ (alone ++ (withOne ++ (withOne ++ ticksOf 179))))
+throughToNormal = tapAlone ++ (tapAlone ++ (tapAlone ++ (withOne ++ (withOne ++ ticksOf 179))))
 
 abbrev pub throughToFactory : List Event
 throughToFactory = withTwo ++ (withTwo ++ (withTwo ++ (withTwo ++ (withTwo ++ ticksOf 179))))

@@ -32,7 +32,7 @@ abbrev pub liveOf : Switch Plain → Live
 liveOf s = record { password = s .password; core = s .plain .core; paddles = s .plain .paddles }
 
 -- The switch as it stands after so many events since a start from 256 bytes.
-pub record Reached (before : ℕ) (live : Live) (all : List ℕ) : Type 0 where
+pub record StoodAt (before : ℕ) (live : Live) (all : List ℕ) : Type 0 where
   pub image : List ℕ
   pub whole : length image ≡ size
   pub events : List Event
@@ -41,7 +41,7 @@ pub record Reached (before : ℕ) (live : Live) (all : List ℕ) : Type 0 where
 
 -- A rival meets the contract if it does at every event of every switch that was started.
 abbrev pub Meets : Rival → Type 0
-Meets r = (before : ℕ) (deed : Deed) (live : Live) (all out : List ℕ) → Reached before live all
+Meets r = (before : ℕ) (deed : Deed) (live : Live) (all out : List ℕ) → StoodAt before live all
     → Responds deed live all out (r before deed live all out .answer) (r before deed live all out .live)
     (r before deed live all out .registers) (r before deed live all out .buffer)
 

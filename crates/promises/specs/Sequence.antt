@@ -10,7 +10,7 @@ use Rattle.switch.specs.Respond.{Responds, Starts, startedFrom}
 use Rattle.switch.specs.declared.Answer.{Answer}
 use Rattle.switch.specs.declared.Live.{Live}
 use Rattle.host.specs.Host.{Begins, Speaks}
-use Rattle.host.specs.Mirror.{answerOf as inNumbers, liveOf}
+use Rattle.host.specs.Mirror.{inNumbers, liveFrom}
 use Rattle.host.specs.declared.Answer.{Answer as Numbers}
 use Rattle.promises.specs.Demand3.{Lent, afterAll, filled, seenOf}
 
@@ -57,4 +57,4 @@ AfterAnySpoken =
     → length image ≡ size
     → Begins image counters numbers all r counters′ numbers′ all′ → Spoken counters′ numbers′ all′ cs counters″ numbers″ all″
     → (r ≡ inNumbers (answerOf 0 [] (startedFrom image .plain)))
-    × Given inNumbers (startedFrom image) cs (held (liveOf counters″ numbers″) all″)
+    × Given inNumbers (startedFrom image) cs (held (liveFrom counters″ numbers″) all″)

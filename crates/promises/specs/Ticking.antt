@@ -6,7 +6,7 @@ use Prim.Native.Nat.{ℕ, zero, suc, _-_, _/_, _≤_, _<_}
 use lib.Dec.{eqb}
 use lib.ListN.{length}
 use Rattle.words.specs.Words.{if_then_else_}
-use Rattle.timers.specs.Timers.{beatsBy, less, turnedBy}
+use Rattle.timers.specs.Timers.{beatsBy, less, metronomeBy}
 use Rattle.units.specs.Units.{off, percentOf, step}
 use Rattle.units.specs.declared.Step.{Step}
 use Rattle.vault.specs.Job.{Switch, switch}
@@ -15,14 +15,14 @@ use Rattle.vault.specs.Product.{machine}
 use Rattle.vault.specs.declared.Mode.{Mode}
 use Rattle.dimmer.specs.Dimmer.{tickedBy}
 use Rattle.dimmer.specs.declared.Dimmer.{Dimmer}
-use Rattle.lamp.specs.Promises.{skip as lampBy}
+use Rattle.lamp.specs.Promises.{lampSkip}
 use Rattle.lamp.specs.declared.Colour.{Colour}
 use Rattle.lamp.specs.declared.Colour.the-variants.{Black}
 use Rattle.packet.specs.Promises.{Sound}
 use Rattle.packet.specs.Reading.{messageOf}
 use Rattle.packet.specs.declared.Header.{Header}
 use Rattle.paddle.specs.Paddle.{down, gesture}
-use Rattle.paddle.specs.Promises.{skip as paddleBy, ticks}
+use Rattle.paddle.specs.Promises.{paddleSkip, paddleTicks}
 use Rattle.paddle.specs.declared.Gesture.{Gesture}
 use Rattle.paddle.specs.declared.Gesture.the-variants.{Nothing, Taps, Hold, Release}
 use Rattle.paddle.specs.declared.Paddle.{Paddle}
@@ -101,7 +101,7 @@ nthTick s n = nextTick (runOf s (ticksOf (n - 1)))
 
 -- No paddle completes a gesture in the next n ticks.
 abbrev pub Silent : ℕ → Switch Plain → Type 0
-Silent n s = (contact k : ℕ) → k < n → gesture (ticks k (paddleAt contact (s .plain .paddles))) ≡ Nothing
+Silent n s = (contact k : ℕ) → k < n → gesture (paddleTicks k (paddleAt contact (s .plain .paddles))) ≡ Nothing
 
 -- Its nth tick is answered 0, sends nothing and leaves the mode, and the level is the dimmer's closed form after n ticks, whatever fades or
 -- blinks.
@@ -113,7 +113,7 @@ LeftToItself =
 -- All that it holds after n such ticks, but the password, which it keeps. Each counter has its closed form. The registers stay, but for 0xF9
 -- where the level was saved in these ticks: it has the percent of the last of those ticks, and `unsaved` is how many came after that one.
 abbrev pub unsaved : ℕ → ℕ → ℕ
-unsaved n save = less saveTicks - turnedBy n saveTicks save
+unsaved n save = less saveTicks - metronomeBy n saveTicks save
 
 abbrev pub savedLevel : ℕ → Core → Step
 savedLevel n c = tickedBy (n - unsaved n (c .save)) (c .dimmer) .level
@@ -124,10 +124,10 @@ registersBy n p =
     else applied (Save (percentOf (savedLevel n (p .core)))) [] (p .registers)
 
 abbrev pub coreBy : ℕ → Core → Core
-coreBy n c = core (c .mode) (tickedBy n (c .dimmer)) (lampBy n (c .lamp)) (turnedBy n saveTicks (c .save))
+coreBy n c = core (c .mode) (tickedBy n (c .dimmer)) (lampSkip n (c .lamp)) (metronomeBy n saveTicks (c .save))
 
 abbrev pub plainBy : ℕ → Plain → Plain
-plainBy n p = plain (registersBy n p) (coreBy n (p .core)) (map (paddleBy n) (p .paddles))
+plainBy n p = plain (registersBy n p) (coreBy n (p .core)) (map (paddleSkip n) (p .paddles))
 
 abbrev pub TicksAtOnce : Type 0
 TicksAtOnce =

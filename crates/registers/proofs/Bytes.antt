@@ -10,8 +10,8 @@ use borrow.Author.Tests.{ltb-true}
 use Rattle.words.specs.Words.{Bytes}
 use Rattle.words.proofs.Laws.{both, cases}
 use Rattle.registers.specs.Places.{size, secret, counterPlace, levelPlace, savedPlace}
-use Rattle.registers.specs.Write.{PercentByte, applied, counted, factoryActions, factoryAt}
-use Rattle.registers.specs.Write.{factoryBy, stored, valuesBy, within}
+use Rattle.registers.specs.Write.{PercentByte, applied, oneMore, factoryActions, factoryAt}
+use Rattle.registers.specs.Write.{factoryBy, stored, valuesBy, between}
 use Rattle.registers.specs.declared.write.Write.{Write}
 use Rattle.registers.specs.declared.write.Write.the-variants.{Nothing, Count, Save, Preset, Factory, Values}
 
@@ -29,8 +29,8 @@ stored-bytes place value all bytes h =
     both Bytes (secret place) bytes (both Bytes (ltb place size) (set-bytes all place value bytes h) bytes)
 
 -- What is written is a byte: a count, and a factory value.
-counted-byte : (n : ℕ) → n < 256 → counted n < 256
-unfolding counted
+counted-byte : (n : ℕ) → n < 256 → oneMore n < 256
+unfolding oneMore
 counted-byte n h = cases (λ (m : ℕ). m < 256) (ltb n 255) (λ e. omega (arith, ltb-true n 255 e)) (λ _. h)
 
 -- Whether each of a list's numbers is a byte, computed.
@@ -54,11 +54,11 @@ factory-byte k old h =
     (pick (eqb k 0x01) (omega arith)
     (pick (eqb k 0x02) (omega arith)
     (pick (eqb k 0x03) (omega arith)
-    (pick (within 0x10 k 0x3F) (omega arith)
-    (pick (within 0x7A k 0x81) (all-bytes factoryActions refl (k - 0x7A))
+    (pick (between 0x10 k 0x3F) (omega arith)
+    (pick (between 0x7A k 0x81) (all-bytes factoryActions refl (k - 0x7A))
     (pick (eqb k 0x8B) (omega arith)
     (pick (eqb k 0x8D) (omega arith)
-    (pick (within 0x40 k 0xBF) (omega arith) h))))))))
+    (pick (between 0x40 k 0xBF) (omega arith) h))))))))
 
 factory-bytes : (n : ℕ) (all : List ℕ) → Bytes all → Bytes (factoryBy n all)
 unfolding factoryBy
@@ -78,7 +78,7 @@ pub write-bytes : (write : Write) (values all : List ℕ) → PercentByte write 
 unfolding applied
 write-bytes Nothing values all h given bytes = bytes
 write-bytes (Count counter) values all h given bytes =
-    stored-bytes (counterPlace counter) (counted (getD all (counterPlace counter) 0)) all bytes
+    stored-bytes (counterPlace counter) (oneMore (getD all (counterPlace counter) 0)) all bytes
     (counted-byte (getD all (counterPlace counter) 0) (bytes (counterPlace counter)))
 write-bytes (Save percent) values all h given bytes = stored-bytes savedPlace (percent .0) all bytes h
 write-bytes (Preset component percent) values all h given bytes = stored-bytes (levelPlace component) (percent .0) all bytes h

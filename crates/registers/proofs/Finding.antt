@@ -7,34 +7,34 @@ use native.Mathlib.Omega.{arith}
 use lib.Dec.{eqb}
 use borrow.Author.Tests.{eqb-true, eqb-false}
 use Rattle.words.proofs.Laws.{three-ways, two-ways}
-use Rattle.registers.specs.Places.{components, linkIn}
+use Rattle.registers.specs.Places.{components, linkOf}
 use Rattle.registers.specs.Registers.{valid, seek, found, FirstWith, NoneWith}
 use Rattle.registers.specs.declared.Found.{Found}
 use Rattle.registers.specs.declared.Found.the-variants.{At, Nowhere}
 
 -- No component from the i-th on and below the k-th has the link.
 abbrev NoneFrom : List ℕ → ℕ → ℕ → ℕ → Type 0
-NoneFrom all link i k = (j : ℕ) → i ≤ j → j < k → linkIn all j ≡ link → ⊥
+NoneFrom all link i k = (j : ℕ) → i ≤ j → j < k → linkOf all j ≡ link → ⊥
 
 -- One component more that does not have it.
-none-more : (all : List ℕ) (link i k : ℕ) → eqb (linkIn all i) link ≡ false → NoneFrom all link (i + 1) k → NoneFrom all link i k
+none-more : (all : List ℕ) (link i k : ℕ) → eqb (linkOf all i) link ≡ false → NoneFrom all link (i + 1) k → NoneFrom all link i k
 none-more all link i k e rest j from below m =
     two-ways i j
     (λ after. rest j (omega arith) below m)
-    (λ at. let here : j ≡ i = omega arith in eqb-false (linkIn all i) link e (rw here at m))
+    (λ at. let here : j ≡ i = omega arith in eqb-false (linkOf all i) link e (rw here at m))
 
 -- What a search among n components from the i-th on finds, and what it passes over.
-seek-at : (all : List ℕ) (link k i n : ℕ) → seek all link i n ≡ At k → (k < i + n) × ((linkIn all k ≡ link) × NoneFrom all link i k)
+seek-at : (all : List ℕ) (link k i n : ℕ) → seek all link i n ≡ At k → (k < i + n) × ((linkOf all k ≡ link) × NoneFrom all link i k)
 unfolding seek
 seek-at all link k i zero e = absurd (let z : _≡_ {A = ℕ} 0 1 = cc in omega arith)
-seek-at all link k i (suc n) e = go (eqb (linkIn all i) link) refl e (seek-at all link k (i + 1) n)
+seek-at all link k i (suc n) e = go (eqb (linkOf all i) link) refl e (seek-at all link k (i + 1) n)
   where
-    go : (t : Bool) → eqb (linkIn all i) link ≡ t → cond t (At i) (seek all link (i + 1) n) ≡ At k
-        → (seek all link (i + 1) n ≡ At k → (k < i + 1 + n) × ((linkIn all k ≡ link) × NoneFrom all link (i + 1) k))
-        → (k < i + suc n) × ((linkIn all k ≡ link) × NoneFrom all link i k)
+    go : (t : Bool) → eqb (linkOf all i) link ≡ t → cond t (At i) (seek all link (i + 1) n) ≡ At k
+        → (seek all link (i + 1) n ≡ At k → (k < i + 1 + n) × ((linkOf all k ≡ link) × NoneFrom all link (i + 1) k))
+        → (k < i + suc n) × ((linkOf all k ≡ link) × NoneFrom all link i k)
     go true t f later =
         let same : i ≡ k = cc in
-        (omega arith, (rw (← same) (eqb-true (linkIn all i) link t), λ j from below _. omega arith))
+        (omega arith, (rw (← same) (eqb-true (linkOf all i) link t), λ j from below _. omega arith))
     go false t f later =
         let parts = later f in
         (omega arith, (parts .1 .0, none-more all link i k t (parts .1 .1)))
@@ -42,9 +42,9 @@ seek-at all link k i (suc n) e = go (eqb (linkIn all i) link) refl e (seek-at al
 seek-nowhere : (all : List ℕ) (link i n : ℕ) → seek all link i n ≡ Nowhere → NoneFrom all link i (i + n)
 unfolding seek
 seek-nowhere all link i zero e = λ j from below m. omega arith
-seek-nowhere all link i (suc n) e = go (eqb (linkIn all i) link) refl e (seek-nowhere all link (i + 1) n)
+seek-nowhere all link i (suc n) e = go (eqb (linkOf all i) link) refl e (seek-nowhere all link (i + 1) n)
   where
-    go : (t : Bool) → eqb (linkIn all i) link ≡ t → cond t (At i) (seek all link (i + 1) n) ≡ Nowhere
+    go : (t : Bool) → eqb (linkOf all i) link ≡ t → cond t (At i) (seek all link (i + 1) n) ≡ Nowhere
         → (seek all link (i + 1) n ≡ Nowhere → NoneFrom all link (i + 1) (i + 1 + n)) → NoneFrom all link i (i + suc n)
     go true t f later = absurd (let z : _≡_ {A = ℕ} 0 1 = cc in omega arith)
     go false t f later = none-more all link i (i + suc n) t (λ j from below. later f j from (omega arith))

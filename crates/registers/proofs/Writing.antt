@@ -17,8 +17,8 @@ use Rattle.vault.specs.Vault.{password}
 use Rattle.vault.specs.declared.Password.{Password}
 use Rattle.registers.specs.Places.{size, firstPlace, secondPlace, secret, componentIn, counterPlace, levelPlace, savedIn, savedPlace}
 use Rattle.registers.specs.Registers.{Dead, imageOf, passwordIn}
-use Rattle.registers.specs.Write.{applied, byteAfter, byteOf, byteSet, changeAt, changeOf, counted, factoryAt}
-use Rattle.registers.specs.Write.{factoryBy, sets, stored, touches, valuesBy, within}
+use Rattle.registers.specs.Write.{applied, byteAfter, byteOf, byteSet, changeAt, changeOf, oneMore, factoryAt}
+use Rattle.registers.specs.Write.{factoryBy, sets, stored, touches, valuesBy, between}
 use Rattle.registers.specs.declared.places.Counter.{Counter}
 use Rattle.registers.specs.declared.places.Counter.the-variants.{Setups, Restarts}
 use Rattle.registers.specs.declared.write.Write.{Write}
@@ -83,7 +83,7 @@ module _ (P : List ℕ → Type 0) (keeps : (place value : ℕ) (all : List ℕ)
   pub write-keeps : (write : Write) (values all : List ℕ) → P all → P (applied write values all)
   unfolding applied
   write-keeps Nothing values all h = h
-  write-keeps (Count counter) values all h = keeps (counterPlace counter) (counted (getD all (counterPlace counter) 0)) all h
+  write-keeps (Count counter) values all h = keeps (counterPlace counter) (oneMore (getD all (counterPlace counter) 0)) all h
   write-keeps (Save percent) values all h = keeps savedPlace (percent .0) all h
   write-keeps (Preset component percent) values all h = keeps (levelPlace component) (percent .0) all h
   write-keeps Factory values all h = factory-keeps size all h
@@ -135,14 +135,14 @@ factory-in (suc n) all k len h top other =
     rw last (stored-here n value before long (omega arith) (rw last at other) ∙ ap (factoryAt n) (factory-past n all n (omega arith))))
 
 -- Outside a stretch of places.
-below : (first k last : ℕ) → k < first → within first k last ≡ false
+below : (first k last : ℕ) → k < first → between first k last ≡ false
 below first k last h = rw (lt-leb first k h)
 
-above : (first k last : ℕ) → last < k → within first k last ≡ false
+above : (first k last : ℕ) → last < k → between first k last ≡ false
 above first k last h = rw (le-ltb k (last + 1) (omega arith)) (and-false (leb first k))
 
 -- "Other registers stay."
-factory-else : (k old : ℕ) → 0x03 < k → within 0x10 k 0xBF ≡ false → factoryAt k old ≡ old
+factory-else : (k old : ℕ) → 0x03 < k → between 0x10 k 0xBF ≡ false → factoryAt k old ≡ old
 unfolding factoryAt
 factory-else k old h out =
     two-ways k 0x10
@@ -199,16 +199,16 @@ pub write-at : (write : Write) (values all : List ℕ) (k : ℕ) → length all 
 unfolding applied byteAfter byteSet sets
 write-at Nothing values all k len h other = refl
 write-at (Count counter) values all k len h other =
-    stored-at (counterPlace counter) (counted (getD all (counterPlace counter) 0)) all k (counted (getD all k 0)) len h other
+    stored-at (counterPlace counter) (oneMore (getD all (counterPlace counter) 0)) all k (oneMore (getD all k 0)) len h other
     (λ e. rw e)
 write-at (Save percent) values all k len h other = stored-at savedPlace (percent .0) all k (percent .0) len h other (λ _. refl)
 write-at (Preset component percent) values all k len h other =
     stored-at (levelPlace component) (percent .0) all k (percent .0) len h other (λ _. refl)
 write-at Factory values all k len h other =
     factory-in size all k len h (omega arith) other
-    ∙ cases (λ (n : ℕ). factoryAt k (getD all k 0) ≡ n) (leb k 0x03 || within 0x10 k 0xBF) (λ _. refl)
+    ∙ cases (λ (n : ℕ). factoryAt k (getD all k 0) ≡ n) (leb k 0x03 || between 0x10 k 0xBF) (λ _. refl)
     (λ e.
-    let parts = neither (leb k 0x03) (within 0x10 k 0xBF) e in
+    let parts = neither (leb k 0x03) (between 0x10 k 0xBF) e in
     factory-else k (getD all k 0) (leb-false k 0x03 (parts .0)) (parts .1))
 write-at (Values first) values all k len h other =
     two-ways k first
@@ -250,10 +250,10 @@ touched write values all k len under h =
 
 -- So a counter then holds one more, 0xF9 the saved percent, and the component's level its preset.
 pub counter-after : (counter : Counter) (values all : List ℕ) → length all ≡ size
-    → getD (applied (Count counter) values all) (counterPlace counter) 0 ≡ counted (getD all (counterPlace counter) 0)
+    → getD (applied (Count counter) values all) (counterPlace counter) 0 ≡ oneMore (getD all (counterPlace counter) 0)
 unfolding applied
 counter-after counter values all len =
-    stored-here (counterPlace counter) (counted (getD all (counterPlace counter) 0)) all len (counter-within counter) (counter-plain counter)
+    stored-here (counterPlace counter) (oneMore (getD all (counterPlace counter) 0)) all len (counter-within counter) (counter-plain counter)
 
 pub saved-after : (percent : Percent) (values all : List ℕ) → length all ≡ size → savedIn (applied (Save percent) values all) ≡ percent .0
 unfolding applied
@@ -269,7 +269,7 @@ preset-after component percent values all len =
 apart-from : (k other : ℕ) → secret k ≡ true → secret other ≡ false → eqb k other ≡ false
 apart-from k other h no-secret = ne-eqb k other (λ e. true≢false (sym h ∙ ap secret e ∙ no-secret))
 
-factory-password : (k old : ℕ) → secret k ≡ true → factoryAt k 0 ≡ cond (leb k 0x03 || within 0x10 k 0xBF) (factoryAt k old) old
+factory-password : (k old : ℕ) → secret k ≡ true → factoryAt k 0 ≡ cond (leb k 0x03 || between 0x10 k 0xBF) (factoryAt k old) old
 unfolding factoryAt
 factory-password k old h = by-secret k (λ e. rw e) (λ e. rw e) (λ e. absurd (true≢false (sym h ∙ e)))
 

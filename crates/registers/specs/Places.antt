@@ -45,13 +45,13 @@ linkPlace i = 0x40 + 3 * (i % components)
 abbrev pub levelPlace : ℕ → ℕ
 levelPlace i = linkPlace i + 1
 
-abbrev pub linkIn : List ℕ → ℕ → ℕ
-linkIn all i = getD all (linkPlace i) 0
+abbrev pub linkOf : List ℕ → ℕ → ℕ
+linkOf all i = getD all (linkPlace i) 0
 
 unfoldable pub componentIn : List ℕ → ℕ → Component
 componentIn all i =
     record {
-      link = linkIn all i;
+      link = linkOf all i;
       level = getD all (levelPlace i) 0;
       rate = getD all (linkPlace i + 2) 0;
     }
@@ -92,11 +92,11 @@ abbrev pub dimmingIn : List ℕ → ℕ
 dimmingIn all = getD all 0x8D 0
 
 -- "Command table 0x90-0xB9: 14 entries of 3 bytes." A number past the fourteenth counts on from the first.
-abbrev pub entries : ℕ
-entries = 14
+abbrev pub entryCount : ℕ
+entryCount = 14
 
 abbrev pub entryPlace : ℕ → ℕ
-entryPlace i = 0x90 + 3 * (i % entries)
+entryPlace i = 0x90 + 3 * (i % entryCount)
 
 unfoldable pub entryIn : List ℕ → ℕ → Entry
 entryIn all i =

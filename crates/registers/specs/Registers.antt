@@ -9,7 +9,7 @@ use lib.ListN.{length, getD, set}
 use Rattle.words.specs.Words.{if_then_else_}
 use Rattle.vault.specs.Vault.{password}
 use Rattle.vault.specs.declared.Password.{Password}
-use Rattle.registers.specs.Places.{size, firstPlace, secondPlace, components, linkIn}
+use Rattle.registers.specs.Places.{size, firstPlace, secondPlace, components, linkOf}
 use Rattle.registers.specs.declared.Seen.{Seen}
 use Rattle.registers.specs.declared.Seen.the-variants.{Hidden, Shown}
 use Rattle.registers.specs.declared.Taken.{Taken}
@@ -87,14 +87,14 @@ valid link = ltb 0 link && ltb link 255
 -- "The matching component is the first of the sixteen whose link equals the destination; 0 and 255 never match."
 unfoldable pub seek : List ℕ → ℕ → ℕ → ℕ → Found
 seek all link i zero = Nowhere
-seek all link i (suc n) = if eqb (linkIn all i) link then At i else seek all link (i + 1) n
+seek all link i (suc n) = if eqb (linkOf all i) link then At i else seek all link (i + 1) n
 
 unfoldable pub found : List ℕ → ℕ → Found
 found all link = if valid link then seek all link 0 components else Nowhere
 
 -- Component i is the first of the sixteen with this link; none of the sixteen has it.
 abbrev pub FirstWith : List ℕ → ℕ → ℕ → Type 0
-FirstWith all link i = (i < components) × ((linkIn all i ≡ link) × ((j : ℕ) → j < i → linkIn all j ≡ link → ⊥))
+FirstWith all link i = (i < components) × ((linkOf all i ≡ link) × ((j : ℕ) → j < i → linkOf all j ≡ link → ⊥))
 
 abbrev pub NoneWith : List ℕ → ℕ → Type 0
-NoneWith all link = (j : ℕ) → j < components → linkIn all j ≡ link → ⊥
+NoneWith all link = (j : ℕ) → j < components → linkOf all j ≡ link → ⊥

@@ -11,8 +11,8 @@ use Rattle.registers.specs.declared.write.Write.{Write}
 use Rattle.registers.specs.declared.write.Write.the-variants.{Nothing, Count, Save, Preset, Factory, Values}
 
 -- "counters stop at 255"
-unfoldable pub counted : ℕ → ℕ
-counted n = if ltb n 255 then n + 1 else n
+unfoldable pub oneMore : ℕ → ℕ
+oneMore n = if ltb n 255 then n + 1 else n
 
 -- "Entering Factory Default sets 0x00 to 255, 0x01 to 1, 0x02-0x03 to 0x12 0x34, 0x10-0x3F to 0, 0x7A-0x81 to 100 255 100 0 0 255 0 0,
 -- 0x8B to 0x09, 0x8D to 0x13, the rest of 0x40-0xBF to 255; other registers stay."
@@ -20,8 +20,8 @@ abbrev pub factoryActions : List ℕ
 factoryActions = 100 ∷ 255 ∷ 100 ∷ 0 ∷ 0 ∷ 255 ∷ 0 ∷ 0 ∷ []
 
 -- From a place to another, both included.
-abbrev pub within : ℕ → ℕ → ℕ → Bool
-within first place last = leb first place && ltb place (last + 1)
+abbrev pub between : ℕ → ℕ → ℕ → Bool
+between first place last = leb first place && ltb place (last + 1)
 
 unfoldable pub factoryAt : ℕ → ℕ → ℕ
 factoryAt place old =
@@ -29,11 +29,11 @@ factoryAt place old =
     else if eqb place 0x01 then 1
     else if eqb place 0x02 then 0x12
     else if eqb place 0x03 then 0x34
-    else if within 0x10 place 0x3F then 0
-    else if within 0x7A place 0x81 then getD factoryActions (place - 0x7A) 0
+    else if between 0x10 place 0x3F then 0
+    else if between 0x7A place 0x81 then getD factoryActions (place - 0x7A) 0
     else if eqb place 0x8B then 0x09
     else if eqb place 0x8D then 0x13
-    else if within 0x40 place 0xBF then 255
+    else if between 0x40 place 0xBF then 255
     else old
 
 -- One byte of the array. What belongs to 0x02 and 0x03 goes to the password, and past 0xFF there is nothing to write to.
@@ -54,7 +54,7 @@ valuesBy (suc n) first values all = stored (first + n) (getD values n 0) (values
 -- to 0xF9." "Store Preset (percent into its level)." "Entering Factory Default sets .." "Set Registers (first, 1 to 16 values)."
 unfoldable pub applied : Write → List ℕ → List ℕ → List ℕ
 applied Nothing values all = all
-applied (Count counter) values all = stored (counterPlace counter) (counted (getD all (counterPlace counter) 0)) all
+applied (Count counter) values all = stored (counterPlace counter) (oneMore (getD all (counterPlace counter) 0)) all
 applied (Save percent) values all = stored savedPlace (percent .0) all
 applied (Preset component percent) values all = stored (levelPlace component) (percent .0) all
 applied Factory values all = factoryBy size all
@@ -84,12 +84,12 @@ sets Nothing count place = false
 sets (Count counter) count place = eqb place (counterPlace counter)
 sets (Save percent) count place = eqb place savedPlace
 sets (Preset component percent) count place = eqb place (levelPlace component)
-sets Factory count place = leb place 0x03 || within 0x10 place 0xBF
+sets Factory count place = leb place 0x03 || between 0x10 place 0xBF
 sets (Values first) count place = leb first place && ltb place (first + count)
 
 unfoldable pub byteSet : Write → List ℕ → ℕ → ℕ → ℕ
 byteSet Nothing values place old = old
-byteSet (Count counter) values place old = counted old
+byteSet (Count counter) values place old = oneMore old
 byteSet (Save percent) values place old = percent .0
 byteSet (Preset component percent) values place old = percent .0
 byteSet Factory values place old = factoryAt place old

@@ -3,7 +3,7 @@ ghost use mathlib.Core.Path.{_≡_};
 ghost use Prim.Native.Nat.{_<_};
 ghost use lib.ListN.{length};
 ghost use Rattle.vault.specs.Job.{became, changed};
-ghost use Rattle.registers.specs.Write.{applied, byteOf, changeOf, counted, factoryAt, factoryBy, stored, valuesBy};
+ghost use Rattle.registers.specs.Write.{applied, byteOf, changeOf, oneMore, factoryAt, factoryBy, stored, valuesBy};
 use crate::places::Counter;
 use crate::places::FIRST;
 use crate::places::SAVED;
@@ -65,7 +65,7 @@ pub fn password(write: Write, values: &[u8], old: Password) -> Password
 
 // Counters stop at 255.
 fn more(value: u8) -> u8
-    ensures { λ r. ⌜ r ≡ counted value ⌝ }
+    ensures { λ r. ⌜ r ≡ oneMore value ⌝ }
 {
     if value < 255 {
         return value + 1;

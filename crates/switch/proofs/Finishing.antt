@@ -9,7 +9,7 @@ use Rattle.words.proofs.Laws.{both}
 use Rattle.timers.specs.Timers.{beats}
 use Rattle.vault.specs.Job.{nothing}
 use Rattle.vault.specs.declared.Password.{Password}
-use Rattle.paddle.specs.Paddle.{next}
+use Rattle.paddle.specs.Paddle.{nextPaddle}
 use Rattle.paddle.specs.declared.Paddle.{Paddle}
 use Rattle.registers.specs.Write.{applied, changeOf, changeAt}
 use Rattle.registers.specs.declared.write.Write.{Write}
@@ -20,7 +20,7 @@ use Rattle.post.specs.Post.{sentOf}
 use Rattle.post.specs.declared.Note.{Note}
 use Rattle.switch.specs.Switch.{Deed, release, tick, event, held, plain, tally, answerWith, answerOf}
 use Rattle.switch.specs.Paddles.{Moment, moment, after, turned, turns}
-use Rattle.switch.specs.Events.{job, doing, paddleOf, releasedAt, gestureAt, releasing, ticking, finished, signalledBy}
+use Rattle.switch.specs.Events.{job, jobOfDeed, paddleOf, releasedAt, gestureAt, jobOfRelease, jobOfTick, finished, signalledBy}
 use Rattle.switch.specs.Respond.{Responds}
 use Rattle.switch.specs.Code.{noted, Stands, Turned, Sends, signalledOn, edge}
 use Rattle.switch.specs.declared.Answer.{Answer}
@@ -86,11 +86,11 @@ pub released-responds :
     → c′ ≡ signalledOn (sent .count) c
     → answer ≡ answerWith 0 sent all′ c′
     → Responds (release contact) live all out answer (record { password = w; core = c′; paddles = r .paddles }) all′ out′
-unfolding doing releasing paddleOf
+unfolding jobOfDeed jobOfRelease paddleOf
 released-responds contact live all out r c c′ all′ out′ n w sent answer room known edge turned sends blink shown =
     let p = held live all .plain in
     finished-responds (release contact) live all out _ (releasedAt contact (live .paddles)) (r .paddles) c c′ all′ out′ (sentOf n) w sent answer
-    (enough-room p (length out) (release contact) room ∙ is-known contact (releasing contact) p known)
+    (enough-room p (length out) (release contact) room ∙ is-known contact (jobOfRelease contact) p known)
     (rw edge at turned)
     (ap (λ (x : Edge). x .paddles) edge)
     sends blink shown
@@ -108,10 +108,10 @@ pub ticked-responds :
     → c′ ≡ signalledOn (sent .count) (e .core)
     → answer ≡ answerWith 0 sent all₂ c′
     → Responds tick live all out answer (record { password = w; core = c′; paddles = ps }) all₂ out′
-unfolding doing ticking
+unfolding jobOfDeed jobOfTick
 ticked-responds live all out old c c′ all₁ all₂ out′ notes w ps e sent answer room age turned save apply sends blink shown =
     let m = turns 0 (live .paddles) (moment all old [] nothing) in
-    finished-responds tick live all out (after (saved (m .core)) m) (map next (live .paddles)) ps (e .core) c′ all₂ out′ (noted notes) w sent answer
+    finished-responds tick live all out (after (saved (m .core)) m) (map nextPaddle (live .paddles)) ps (e .core) c′ all₂ out′ (noted notes) w sent answer
     (enough-room (held live all .plain) (length out) tick room ∙ rw age)
     (saved-stands m (live .password) c all₁ all₂ (noted notes) w e (turned .stands) save apply)
     (turned .paddles)

@@ -9,7 +9,7 @@ use Rattle.vault.specs.Product
 use Rattle.paddle.specs.declared.Paddle.{Paddle}
 use Rattle.post.specs.Post.{placed}
 use Rattle.switch.specs.Switch.{Plain, Deed, event, held, plain, shown, tally, answerWith, answerOf, press, release}
-use Rattle.switch.specs.Events.{Asked, refused, known, job, doing, finished, signalledBy, pressedAt, pressing, releasing}
+use Rattle.switch.specs.Events.{SwitchJob, refused, known, job, jobOfDeed, finished, signalledBy, pressedAt, jobOfPress, jobOfRelease}
 use Rattle.switch.specs.Respond.{Responds}
 use Rattle.switch.specs.Code.{refusedWith}
 use Rattle.switch.specs.declared.Answer.{Answer}
@@ -21,16 +21,16 @@ pub no-room : (p : Plain) (room : ℕ) (deed : Deed) → room < 48 → job p (ev
 unfolding job
 no-room p room deed h = rw (lt-ltb room 48 h)
 
-pub enough-room : (p : Plain) (room : ℕ) (deed : Deed) → 48 ≤ room → job p (event room deed) ≡ doing deed p
+pub enough-room : (p : Plain) (room : ℕ) (deed : Deed) → 48 ≤ room → job p (event room deed) ≡ jobOfDeed deed p
 unfolding job
 enough-room p room deed h = rw (le-ltb room 48 h)
 
 -- "3: contact above 3"
-pub unknown : (contact : ℕ) (asked : Plain → Asked) (p : Plain) → 3 < contact → known contact asked p ≡ done (refused 3 p) nothing
+pub unknown : (contact : ℕ) (asked : Plain → SwitchJob) (p : Plain) → 3 < contact → known contact asked p ≡ done (refused 3 p) nothing
 unfolding known
 unknown contact asked p h = rw (lt-ltb 3 contact h)
 
-pub is-known : (contact : ℕ) (asked : Plain → Asked) (p : Plain) → contact ≤ 3 → known contact asked p ≡ asked p
+pub is-known : (contact : ℕ) (asked : Plain → SwitchJob) (p : Plain) → contact ≤ 3 → known contact asked p ≡ asked p
 unfolding known
 is-known contact asked p h = rw (le-ltb 3 contact h)
 
@@ -43,7 +43,7 @@ module _ (deed : Deed) (live : Live) (all out : List ℕ) where
       → held live′ all′ ≡ switch p′ (changed c (live .password))
       → out′ ≡ placed sent out
       → Responds deed live all out answer live′ all′ out′
-  unfolding Product.respond settled
+  unfolding Product.responseOf settled
   responds-done number sent p′ c answer live′ all′ out′ e a n b =
       record { answered = rw e a; next = rw e n; bytes = rw e b }
 
@@ -53,7 +53,7 @@ module _ (deed : Deed) (live : Live) (all out : List ℕ) where
       → job (held live all .plain) (event (length out) deed) ≡ done (refused number (held live all .plain)) nothing
       → r ≡ refusedWith number live all
       → Responds deed live all out (r .answer) (r .live) all out
-  unfolding Product.respond settled refused refusedWith answerOf changed became placed
+  unfolding Product.responseOf settled refused refusedWith answerOf changed became placed
   responds-refused number r e f =
       record {
         answered = rw (e, f);
@@ -68,18 +68,18 @@ module _ (deed : Deed) (live : Live) (all out : List ℕ) where
 pub press-unknown :
     (contact : ℕ) (live : Live) (all out : List ℕ) (r : Outcome) → 48 ≤ length out → 3 < contact → r ≡ refusedWith 3 live all
     → Responds (press contact) live all out (r .answer) (r .live) all out
-unfolding doing
+unfolding jobOfDeed
 press-unknown contact live all out r h k f =
     responds-refused (press contact) live all out 3 r
-    (enough-room (held live all .plain) (length out) (press contact) h ∙ unknown contact (pressing contact) (held live all .plain) k) f
+    (enough-room (held live all .plain) (length out) (press contact) h ∙ unknown contact (jobOfPress contact) (held live all .plain) k) f
 
 pub release-unknown :
     (contact : ℕ) (live : Live) (all out : List ℕ) (r : Outcome) → 48 ≤ length out → 3 < contact → r ≡ refusedWith 3 live all
     → Responds (release contact) live all out (r .answer) (r .live) all out
-unfolding doing
+unfolding jobOfDeed
 release-unknown contact live all out r h k f =
     responds-refused (release contact) live all out 3 r
-    (enough-room (held live all .plain) (length out) (release contact) h ∙ unknown contact (releasing contact) (held live all .plain) k) f
+    (enough-room (held live all .plain) (length out) (release contact) h ∙ unknown contact (jobOfRelease contact) (held live all .plain) k) f
 
 -- A press edge: the paddles alone change.
 pub pressed-responds :
@@ -87,11 +87,11 @@ pub pressed-responds :
     → answer ≡ answerWith 0 (tally []) all (live .core)
     → paddles ≡ pressedAt contact (live .paddles)
     → Responds (press contact) live all out answer (record { password = live .password; core = live .core; paddles = paddles }) all out
-unfolding doing pressing finished signalledBy changed became answerOf placed
+unfolding jobOfDeed jobOfPress finished signalledBy changed became answerOf placed
 pressed-responds contact live all out answer paddles h k a b =
     responds-done (press contact) live all out 0 [] (plain all (live .core) (pressedAt contact (live .paddles))) nothing answer
     (record { password = live .password; core = live .core; paddles = paddles }) all out
-    (enough-room (held live all .plain) (length out) (press contact) h ∙ is-known contact (pressing contact) (held live all .plain) k)
+    (enough-room (held live all .plain) (length out) (press contact) h ∙ is-known contact (jobOfPress contact) (held live all .plain) k)
     a
     (rw b)
     refl

@@ -10,14 +10,14 @@ use lib.ListN.{length, getD, set, drop, drop-of-length-le}
 use lib.Seq.{drop-cons, take-all}
 use borrow.Author.Tests.{ltb-true, ne-eqb}
 use Rattle.words.proofs.Laws.{both}
-use Rattle.timers.specs.Timers.{turned as turnedAround}
+use Rattle.timers.specs.Timers.{metronome}
 use Rattle.units.specs.declared.Percent.{Percent}
 use Rattle.vault.specs.Job.{Answered, changed, became, settled, switch}
 use Rattle.vault.specs.Product
 use Rattle.vault.specs.declared.Mode.{Mode}
 use Rattle.vault.specs.declared.Mode.the-variants.{Normal, Setup, Factory}
 use Rattle.vault.specs.declared.Password.{Password}
-use Rattle.paddle.specs.Paddle.{fresh, gesture, next, none, turn}
+use Rattle.paddle.specs.Paddle.{freshPaddle, gesture, nextPaddle, completesNothing, turn}
 use Rattle.paddle.specs.declared.Gesture.{Gesture}
 use Rattle.paddle.specs.declared.Gesture.the-variants.{Nothing, Taps, Hold, Release}
 use Rattle.paddle.specs.declared.Paddle.{Paddle}
@@ -31,7 +31,7 @@ use Rattle.acts.proofs.Laws.{nothing-acts}
 use Rattle.post.specs.Post.{announced, bytesOf, chosen, commandNumber, enveloped, gestureMessage, gestureNumber, placed}
 use Rattle.switch.specs.Switch.{Plain, Shown, plain, press, release, tick, event, shown, answerOf}
 use Rattle.switch.specs.Paddles.{Moment, after, followed, over, turned, turns}
-use Rattle.switch.specs.Events.{begun, doing, finished, gestureAt, paddleOf, pressedAt, pressing, releasedAt, releasing, signalledBy, ticking}
+use Rattle.switch.specs.Events.{begun, jobOfDeed, finished, gestureAt, paddleOf, pressedAt, jobOfPress, releasedAt, jobOfRelease, signalledBy, jobOfTick}
 use Rattle.switch.specs.Code.{lived, passed, passedCore, quiet, recognised}
 use Rattle.switch.specs.Respond.{Responds, respond}
 use Rattle.switch.specs.declared.Live.{Live}
@@ -41,8 +41,8 @@ use Rattle.switch.proofs.Turning.{nothing-followed, ticked-by, ticked-n
 use Rattle.switch.proofs.Laws.{enough-room, is-known}
 
 -- Nothing completed is no gesture, and sends nothing.
-nothing-done : (g : Gesture) → none g ≡ true → g ≡ Nothing
-unfolding none
+nothing-done : (g : Gesture) → completesNothing g ≡ true → g ≡ Nothing
+unfolding completesNothing
 nothing-done Nothing h = refl
 nothing-done (Taps n) h = absurd (true≢false (sym h))
 nothing-done Hold h = absurd (true≢false (sym h))
@@ -68,12 +68,12 @@ pub turns-quiet : (ps : List Paddle) (i : ℕ) (m : Moment) → quiet ps ≡ tru
 unfolding turns quiet
 turns-quiet [] i m h = refl
 turns-quiet (p ∷ ps) i m h =
-    let parts = and-eq-true-iff (none (gesture p)) (quiet ps) .0 h in
+    let parts = and-eq-true-iff (completesNothing (gesture p)) (quiet ps) .0 h in
     rw (nothing-done (gesture p) (parts .0), turned-nothing i m) (turns-quiet ps (i + 1) m (parts .1))
 
 -- A tick that saves nothing.
 unsaved : (c : Core) → 0 < c .save → saved (aged c) ≡ unwritten (passedCore c)
-unfolding saved toSave aged passedCore unwritten turnedAround
+unfolding saved toSave aged passedCore unwritten metronome
 unsaved c h = rw (ne-eqb (c .save) 0 (omega arith))
 
 -- Number 0, nothing sent, and the switch as it then is.
@@ -84,28 +84,28 @@ module _ (all : List ℕ) (c : Core) (ps : List Paddle) (w : Password) (room : �
   pub quick-press :
       (contact : ℕ) → contact ≤ 3
       → respond (switch (plain all c ps) w) (event room (press contact)) ≡ plainly (plain all c (pressedAt contact ps)) w
-  unfolding Product.respond settled doing pressing finished signalledBy changed became
+  unfolding Product.responseOf settled jobOfDeed jobOfPress finished signalledBy changed became
   quick-press contact known =
       let p = plain all c ps in
-      rw (enough-room p room (press contact) enough, is-known contact (pressing contact) p known)
+      rw (enough-room p room (press contact) enough, is-known contact (jobOfPress contact) p known)
 
   pub quick-release :
-      (contact : ℕ) → contact ≤ 3 → none (gestureAt contact ps) ≡ true
+      (contact : ℕ) → contact ≤ 3 → completesNothing (gestureAt contact ps) ≡ true
       → respond (switch (plain all c ps) w) (event room (release contact)) ≡ plainly (plain all c (releasedAt contact ps)) w
-  unfolding Product.respond settled doing releasing finished signalledBy changed became
+  unfolding Product.responseOf settled jobOfDeed jobOfRelease finished signalledBy changed became
   quick-release contact known still =
       let p = plain all c ps in
       rw (
         enough-room p room (release contact) enough,
-        is-known contact (releasing contact) p known,
+        is-known contact (jobOfRelease contact) p known,
         nothing-done (gestureAt contact ps) still,
         turned-nothing (paddleOf contact) (begun p c),
       )
 
   pub quick-tick :
       0 < c .save → quiet ps ≡ true
-      → respond (switch (plain all c ps) w) (event room tick) ≡ plainly (plain all (passedCore c) (map next ps)) w
-  unfolding Product.respond settled doing ticking after unwritten applied changeOf changeAt followed over finished signalledBy changed became
+      → respond (switch (plain all c ps) w) (event room tick) ≡ plainly (plain all (passedCore c) (map nextPaddle ps)) w
+  unfolding Product.responseOf settled jobOfDeed jobOfTick after unwritten applied changeOf changeAt followed over finished signalledBy changed became
   quick-tick unsaving still =
       let p = plain all c ps in
       rw (enough-room p room tick enough, turns-quiet ps 0 (begun p (aged c)) still, unsaved c unsaving)
@@ -114,7 +114,7 @@ module _ (all : List ℕ) (c : Core) (ps : List Paddle) (w : Password) (room : �
 pub passed-responds :
     (live : Live) (all out : List ℕ) (r : Recognised) (p : Passed)
     → 48 ≤ length out
-    → r ≡ recognised (map next (live .paddles)) (quiet (live .paddles))
+    → r ≡ recognised (map nextPaddle (live .paddles)) (quiet (live .paddles))
     → (r .quiet && ltb 0 (live .core .save)) ≡ true
     → p ≡ passed all (live .core)
     → Responds tick live all out (p .answer) (lived (live .password) (p .core) (r .paddles)) all out
@@ -148,19 +148,19 @@ recognising-begins ps = record { ticked = refl; quietly = refl }
 module _ (ps : List Paddle) (i : ℕ) (ps′ : List Paddle) (still : Bool) (t : Recognising ps i ps′ still) where
   pub recognising-again :
       (r : Turn) (n : Bool) → i < length ps
-      → r ≡ turn (next (getD ps i fresh)) (gesture (getD ps i fresh))
-      → n ≡ none (r .gesture)
+      → r ≡ turn (nextPaddle (getD ps i freshPaddle)) (gesture (getD ps i freshPaddle))
+      → n ≡ completesNothing (r .gesture)
       → Recognising ps (i + 1) (set ps′ i (r .paddle)) (still && n)
   unfolding quiet
   recognising-again r n h e known =
-      let p = getD ps i fresh in
+      let p = getD ps i freshPaddle in
       rw (add-one i)
       record {
         ticked = rw (t .ticked, e) (ticked-next ps i h);
-        quietly = rw (known, e, and-joined still (none (gesture p)) (quiet (drop (suc i) ps))) (rw (drop-cons ps i fresh h) at (t .quietly));
+        quietly = rw (known, e, and-joined still (completesNothing (gesture p)) (quiet (drop (suc i) ps))) (rw (drop-cons ps i freshPaddle h) at (t .quietly));
       }
 
-  pub recognising-ends : length ps ≤ i → recognised ps′ still ≡ recognised (map next ps) (quiet ps)
+  pub recognising-ends : length ps ≤ i → recognised ps′ still ≡ recognised (map nextPaddle ps) (quiet ps)
   unfolding quiet
   recognising-ends h =
       let calm : still ≡ quiet ps = and-true still ∙ (rw (drop-of-length-le ps h) at (t .quietly)) in

@@ -18,7 +18,7 @@ use Rattle.vault.specs.declared.Mode.{Mode}
 use Rattle.vault.specs.declared.Mode.the-variants.{Normal, Setup, Factory}
 use Rattle.vault.specs.declared.Password.{Password}
 use Rattle.lamp.specs.declared.Colour.{Colour}
-use Rattle.packet.specs.Reading.{readOf, messageOf, numberOf}
+use Rattle.packet.specs.Reading.{readOf, messageOf, numberOfFrame}
 use Rattle.packet.specs.declared.Frame.{Frame}
 use Rattle.packet.specs.declared.Frame.the-variants as frame
 use Rattle.packet.specs.declared.Header.{Header}
@@ -41,7 +41,7 @@ use Rattle.registers.specs.Write.{applied, changeOf, changeAt}
 use Rattle.registers.specs.declared.Seen.{Seen}
 use Rattle.registers.specs.declared.Seen.the-variants as seen
 use Rattle.switch.specs.Switch.{Plain, plain, event, receive, held, tally, added, answerWith, answerOf}
-use Rattle.switch.specs.Events.{answering, doing, garbled, getting, hueOf, job, obeyed, obeying, opening, ordering, reading, receiving, refused, replyTo, seenBy, signalled}
+use Rattle.switch.specs.Events.{outcomeOf, jobOfDeed, garbled, jobOfGet, hueOf, job, plainAfter, jobOfAct, jobOfGuess, jobOfOrder, jobOfFrame, jobOfBytes, refused, replyTo, seenBy, signalled}
 use Rattle.switch.specs.Respond.{Responds}
 use Rattle.switch.specs.Code.{Answers, Handles, Leads, OneHandled, Orders, effectOf, garbledBy, handled, lived, unmoved, verdictOf, verdictOn}
 use Rattle.switch.specs.declared.Answer.{Answer}
@@ -90,7 +90,7 @@ pub answered-so :
     → Laid (replied all′ s source r percent) out n out′
     → none ≡ tally [] → sent ≡ added none n → answer ≡ answerWith 0 sent all′ core
     → Answers e values source r s w all out (handled answer w′ core) all′ out′
-unfolding answering obeyed answerOf
+unfolding outcomeOf plainAfter answerOf
 answered-so e w all values source r s out all′ out′ w′ hue core percent n none sent answer room a x h c p laid z t shows =
     let reply = replied all′ s source r percent in
     let fits : length (front reply) ≤ place = reply-fits all′ s source r percent in
@@ -136,7 +136,7 @@ module _ (w : Password) (c : Core) (all out : List ℕ) where
 
   module _ (source : ℕ) (values : List ℕ) where
     wrong-guess : (guess : Password) (n : ℕ) → verdictOn w guess ≡ Stop n → Orders (order.Open guess) source values w c all out (unmoved n w c all) all out
-    unfolding verdictOn ordering opening settled refused unmoved answerOf placed
+    unfolding verdictOn jobOfOrder jobOfGuess settled refused unmoved answerOf placed
     wrong-guess guess n h = by-test (matches w guess) refl
       where
         by-test : (b : Bool) → matches w guess ≡ b → Orders (order.Open guess) source values w c all out (unmoved n w c all) all out
@@ -146,7 +146,7 @@ module _ (w : Password) (c : Core) (all out : List ℕ) where
             record { answered = λ ps. rw (m, ← e); next = λ ps. rw m; bytes = λ ps. rw m }
 
     pub orders-stopped : (o : Order) (n : ℕ) (h : Handled) → verdictOf o w ≡ Stop n → h ≡ unmoved n w c all → Orders o source values w c all out h all out
-    unfolding verdictOf ordering
+    unfolding verdictOf jobOfOrder
     orders-stopped o n h v e = rw e (stopped o v)
       where
         stopped : (o : Order) → verdictOf o w ≡ Stop n → Orders o source values w c all out (unmoved n w c all) all out
@@ -169,7 +169,7 @@ module _ (w : Password) (c : Core) (all out : List ℕ) where
           (guess : Password) (s : Seen) → verdictOn w guess ≡ Go
           → Answers (opened c) values source reply.Silence s w all out h all′ out′
           → Orders (order.Open guess) source values w c all out h all′ out′
-      unfolding verdictOn ordering opening settled answering obeyed opened applied changeOf changeAt changed became replied replyMessage enveloped
+      unfolding verdictOn jobOfOrder jobOfGuess settled outcomeOf plainAfter opened applied changeOf changeAt changed became replied replyMessage enveloped
       right-guess guess s v a = by-test (matches w guess) refl
         where
           by-test : (b : Bool) → matches w guess ≡ b → Orders (order.Open guess) source values w c all out h all′ out′
@@ -181,7 +181,7 @@ module _ (w : Password) (c : Core) (all out : List ℕ) where
           (first count : ℕ) (s : Seen) → s ≡ seenBy (c .mode) w
           → Answers (performed all (order.Get first count) c) values source (reply.Registers first count) s w all out h all′ out′
           → Orders (order.Get first count) source values w c all out h all′ out′
-      unfolding ordering getting settled answering obeyed performed unwritten applied changeOf changeAt changed became
+      unfolding jobOfOrder jobOfGet settled outcomeOf plainAfter performed unwritten applied changeOf changeAt changed became
       shown-so first count s f a = by-test (inSetup (c .mode)) refl
         where
           by-test : (b : Bool) → inSetup (c .mode) ≡ b → Orders (order.Get first count) source values w c all out h all′ out′
@@ -205,7 +205,7 @@ module _ (w : Password) (c : Core) (all out : List ℕ) where
           → v ≡ verdictOf o w → v ≡ Go → e ≡ effectOf all o c → r ≡ replyTo o → s ≡ seenBy (c .mode) w
           → Answers e values source r s w all out h all′ out′
           → Orders o source values w c all out h all′ out′
-      unfolding verdictOf effectOf ordering obeying settled answering obeyed replyTo replied replyMessage
+      unfolding verdictOf effectOf jobOfOrder jobOfAct settled outcomeOf plainAfter replyTo replied replyMessage
       orders-granted o v e r s f g d t f′ a = granted o (sym f ∙ g) (rw (← d, ← t) a)
         where
           granted :
@@ -255,8 +255,8 @@ performed-else all (order.Blink value) c k = refl
 performed-else all order.Report c k = refl
 performed-else all (order.Store i) c k = refl
 
-unread : (f : Frame) (message : List ℕ) (p : Plain) → OneOf (1 ∷ 2 ∷ 3 ∷ 4 ∷ 5 ∷ []) (tagOf Frame.the-type f) → reading f message p ≡ done (garbled (numberOf f) p) nothing
-unfolding reading
+unread : (f : Frame) (message : List ℕ) (p : Plain) → OneOf (1 ∷ 2 ∷ 3 ∷ 4 ∷ 5 ∷ []) (tagOf Frame.the-type f) → jobOfFrame f message p ≡ done (garbled (numberOfFrame f) p) nothing
+unfolding jobOfFrame
 unread (frame.Read h) message p k = absurd (miss (1 ∷ 2 ∷ 3 ∷ 4 ∷ 5 ∷ []) 0 tt k)
 unread frame.Short message p k = refl
 unread frame.Long message p k = refl
@@ -267,7 +267,7 @@ unread frame.Reserved message p k = refl
 -- A packet without room for an answer, one that does not read, and one that is settled by its order.
 module _ (bytes : List ℕ) (w : Password) (c : Core) (all out : List ℕ) where
   pub handles-short : (h : Handled) → length out < 48 → h ≡ unmoved 2 w c all → Handles bytes w c all out h all out
-  unfolding Product.respond settled refused unmoved answerOf changed became placed
+  unfolding Product.responseOf settled refused unmoved answerOf changed became placed
   handles-short h short e =
       rw e
       record {
@@ -279,14 +279,14 @@ module _ (bytes : List ℕ) (w : Password) (c : Core) (all out : List ℕ) where
   module _ (room : 48 ≤ length out) where
     pub handles-garbled :
         (f : Frame) (n : ℕ) (h : Handled) → f ≡ readOf bytes → OneOf (1 ∷ 2 ∷ 3 ∷ 4 ∷ 5 ∷ []) (tagOf Frame.the-type f)
-        → n ≡ numberOf f → h ≡ garbledBy n w c all
+        → n ≡ numberOfFrame f → h ≡ garbledBy n w c all
         → Handles bytes w c all out h all out
-    unfolding Product.respond doing receiving settled garbled garbledBy unmoved answerOf changed became placed
+    unfolding Product.responseOf jobOfDeed jobOfBytes settled garbled garbledBy unmoved answerOf changed became placed
     handles-garbled f n h e k m g =
         rw (g, m)
         record { answered = λ ps. rw (asked ps); next = λ ps. rw (asked ps); bytes = λ ps. rw (asked ps) }
       where
-        asked : (ps : List Paddle) → job (plain all c ps) (event (length out) (receive bytes)) ≡ done (garbled (numberOf f) (plain all c ps)) nothing
+        asked : (ps : List Paddle) → job (plain all c ps) (event (length out) (receive bytes)) ≡ done (garbled (numberOfFrame f) (plain all c ps)) nothing
         asked ps = enough-room (plain all c ps) (length out) (receive bytes) room ∙ rw (← e) (unread f (messageOf bytes) (plain all c ps) k)
 
     pub handles-read :
@@ -294,7 +294,7 @@ module _ (bytes : List ℕ) (w : Password) (c : Core) (all out : List ℕ) where
         → readOf bytes ≡ frame.Read header → message ≡ messageOf bytes → o ≡ judged all (c .mode) header message → values ≡ drop 2 message
         → Orders o (header .source) values w c all out h all′ out′
         → Handles bytes w c all out h all′ out′
-    unfolding Product.respond doing receiving reading
+    unfolding Product.responseOf jobOfDeed jobOfBytes jobOfFrame
     handles-read header o message values h all′ out′ f m j v s =
         let b : Orders (judged all (c .mode) header (messageOf bytes)) (header .source) (drop 2 (messageOf bytes)) w c all out h all′ out′ = rw (← m, ← j, ← v) s in
         record {

@@ -11,7 +11,7 @@ use Rattle.units.specs.Units.{percentOf}
 use Rattle.units.specs.declared.Percent.{Percent}
 use Rattle.vault.specs.Job.{Byte, kept, put, became, Change, nothing, changed}
 use Rattle.vault.specs.declared.Password.{Password}
-use Rattle.paddle.specs.Paddle.{fresh, gesture, next, turn}
+use Rattle.paddle.specs.Paddle.{freshPaddle, gesture, nextPaddle, turn}
 use Rattle.paddle.specs.declared.Gesture.{Gesture}
 use Rattle.paddle.specs.declared.Paddle.{Paddle}
 use Rattle.paddle.specs.declared.Turn.{Turn}
@@ -146,12 +146,12 @@ onward-again whole rest after began w w′ before packets o n =
 
 -- The paddles of which the first so many have ticked.
 abbrev pub ticked-by : ℕ → List Paddle → List Paddle
-ticked-by i ps = map next (take i ps) ++ drop i ps
+ticked-by i ps = map nextPaddle (take i ps) ++ drop i ps
 
-pub ticked-next : (ps : List Paddle) (i : ℕ) → i < length ps → set (ticked-by i ps) i (next (getD ps i fresh)) ≡ ticked-by (suc i) ps
+pub ticked-next : (ps : List Paddle) (i : ℕ) → i < length ps → set (ticked-by i ps) i (nextPaddle (getD ps i freshPaddle)) ≡ ticked-by (suc i) ps
 ticked-next [] i h = absurd (omega arith)
 ticked-next (p ∷ ps) zero h = refl
-ticked-next (p ∷ ps) (suc i) h = ap (λ (l : List Paddle). next p ∷ l) (ticked-next ps i (omega arith))
+ticked-next (p ∷ ps) (suc i) h = ap (λ (l : List Paddle). nextPaddle p ∷ l) (ticked-next ps i (omega arith))
 
 -- One note more.
 pub noted-append : (ns ms : List Note) → noted (ns ++ ms) ≡ noted ns ++ noted ms
@@ -179,15 +179,15 @@ module _ (whole : Moment) (began : Password) (ps : List Paddle) (i : ℕ) (c : C
     (t : Turning whole began ps i c all notes w ps′) where
   pub turning-again :
       (r : Turn) (c′ : Core) (all′ : List ℕ) (n : Note) (w′ : Password) → i < length ps
-      → r ≡ turn (next (getD ps i fresh)) (gesture (getD ps i fresh))
+      → r ≡ turn (nextPaddle (getD ps i freshPaddle)) (gesture (getD ps i freshPaddle))
       → Stands (turned i (r .gesture) (moment all c [] nothing)) w c′ all′ (sentOf n) w′
       → Turning whole began ps (i + 1) c′ all′ (set notes i n) w′ (set ps′ i (r .paddle))
   turning-again r c′ all′ n w′ h e s =
-      let p = getD ps i fresh in
+      let p = getD ps i freshPaddle in
       let rest = turns i (drop i ps) (moment all c [] nothing) in
       let later = drop (suc i) ps in
       let step : Onward rest w (turns (suc i) later (moment all′ c′ [] nothing)) w′ (sentOf n) =
-      rw (drop-cons ps i fresh h) (rw (add-one i) at (one-turn i p later all all′ c c′ w w′ (sentOf n) (rw e at s))) in
+      rw (drop-cons ps i freshPaddle h) (rw (add-one i) at (one-turn i p later all all′ c c′ w w′ (sentOf n) (rw e at s))) in
       rw (add-one i)
       record {
         enough = rw (length-set notes i n) (t .enough);

@@ -13,7 +13,7 @@ use Rattle.vault.specs.Job.{changed, became, nothing}
 use Rattle.vault.specs.declared.Password.{Password}
 use Rattle.acts.specs.Core.{started}
 use Rattle.acts.specs.declared.Core.{Core}
-use Rattle.paddle.specs.Paddle.{fresh}
+use Rattle.paddle.specs.Paddle.{freshPaddle}
 use Rattle.paddle.specs.declared.Paddle.{Paddle}
 use Rattle.post.specs.Post.{placed}
 use Rattle.registers.specs.Registers.{Took, apart, numberTaken, passwordIn}
@@ -25,7 +25,7 @@ use Rattle.registers.specs.declared.write.Write.the-variants.{Count}
 use Rattle.registers.proofs.Laws.{image-taken, image-refused}
 use Rattle.registers.proofs.Taken.{the-type}
 use Rattle.switch.specs.Switch.{restart, tally, answerWith, answerOf, held}
-use Rattle.switch.specs.Events.{doing, restarting, woken}
+use Rattle.switch.specs.Events.{jobOfDeed, jobOfRestart, woken}
 use Rattle.switch.specs.Respond.{Responds, Starts, noOutcome, startAnswer, startNext, startedFrom}
 use Rattle.switch.specs.Code.{Wakes}
 use Rattle.switch.specs.declared.Answer.{Answer}
@@ -38,7 +38,7 @@ use Rattle.switch.proofs.Laws.{responds-done, enough-room}
 pub woke :
     (w : Password) (all all′ : List ℕ) (core : Core) (sent : Sent) (answer : Answer) (top bottom : Paddle)
     → all′ ≡ applied (Count Restarts) [] all → core ≡ started all′ → sent ≡ tally [] → answer ≡ answerWith 0 sent all′ core
-    → top ≡ fresh → bottom ≡ fresh
+    → top ≡ freshPaddle → bottom ≡ freshPaddle
     → Wakes w all answer (record { password = w; core = core; paddles = top ∷ bottom ∷ [] }) all′
 unfolding woken answerOf
 woke w all all′ core sent answer top bottom a c s e t b =
@@ -48,7 +48,7 @@ woke w all all′ core sent answer top bottom a c s e t b =
 pub restart-responds :
     (live : Live) (all out : List ℕ) (answer : Answer) (live′ : Live) (all′ : List ℕ) → 48 ≤ length out
     → Wakes (live .password) all answer live′ all′ → Responds restart live all out answer live′ all′ out
-unfolding doing restarting changed became placed
+unfolding jobOfDeed jobOfRestart changed became placed
 restart-responds live all out answer live′ all′ h w =
     responds-done restart live all out 0 [] (woken all) nothing answer live′ all′ out
     (enough-room (held live all .plain) (length out) restart h)

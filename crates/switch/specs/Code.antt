@@ -11,7 +11,7 @@ use Rattle.lamp.specs.declared.Colour.the-variants.{Black, Red}
 use Rattle.vault.specs.Job.{Answered, answered, changed, settled, switch}
 use Rattle.vault.specs.Vault.{matches}
 use Rattle.vault.specs.declared.Password.{Password}
-use Rattle.paddle.specs.Paddle.{next, gesture, none}
+use Rattle.paddle.specs.Paddle.{nextPaddle, gesture, completesNothing}
 use Rattle.paddle.specs.declared.Gesture.{Gesture}
 use Rattle.paddle.specs.declared.Paddle.{Paddle}
 use Rattle.acts.specs.Core.{aged, core, opened}
@@ -27,7 +27,7 @@ use Rattle.judge.specs.declared.Order.{Order}
 use Rattle.judge.specs.declared.Order.the-variants as order
 use Rattle.switch.specs.Switch.{Plain, Shown, plain, event, receive, held, tally, answerWith, answerOf}
 use Rattle.switch.specs.Paddles.{Moment}
-use Rattle.switch.specs.Events.{answering, ordering, signalled, woken}
+use Rattle.switch.specs.Events.{outcomeOf, jobOfOrder, signalled, woken}
 use Rattle.switch.specs.Respond.{respond}
 use Rattle.switch.specs.declared.Answer.{Answer}
 use Rattle.switch.specs.declared.Live.{Live}
@@ -76,12 +76,12 @@ OneHandled =
 
 -- An order, settled as its job says.
 abbrev pub Orders : Order → ℕ → List ℕ → Password → Core → List ℕ → List ℕ → Handled → List ℕ → List ℕ → Type 0
-Orders o source values w c all out = Leads (λ ps. settled w (ordering o source values (plain all c ps))) out
+Orders o source values w c all out = Leads (λ ps. settled w (jobOfOrder o source values (plain all c ps))) out
 
 -- An act, answered as `answering` has it.
 abbrev pub Answers : Effect → List ℕ → ℕ → Reply → Seen → Password → List ℕ → List ℕ → Handled → List ℕ → List ℕ → Type 0
 Answers e values source r s w all out =
-    Leads (λ ps. answered (answering e values source r (plain all (e .core) ps) s) (changed (changeOf (e .write) values) w)) out
+    Leads (λ ps. answered (outcomeOf e values source r (plain all (e .core) ps) s) (changed (changeOf (e .write) values) w)) out
 
 -- Whether an order is refused: by its number, or by 14 where the guess is wrong.
 unfoldable pub verdictOn : Password → Password → Verdict
@@ -136,7 +136,7 @@ pub record Stands (m : Moment) (began : Password) (c : Core) (all : List ℕ) (p
 -- All paddles have had their turn at a tick.
 pub record Turned (m : Moment) (began : Password) (ps : List Paddle) (c : Core) (all : List ℕ) (notes : List Note) (w : Password) (ps′ : List Paddle) : Type 0 where
   pub stands : Stands m began c all (noted notes) w
-  pub paddles : ps′ ≡ map next ps
+  pub paddles : ps′ ≡ map nextPaddle ps
 
 -- Packets are laid into the places of a buffer, and counted.
 pub record Sends (packets : List (List ℕ)) (before : List ℕ) (sent : Sent) (after : List ℕ) : Type 0 where
@@ -154,7 +154,7 @@ edge paddles gesture = record { paddles = paddles; gesture = gesture }
 -- None of the paddles completes a gesture in the next tick.
 unfoldable pub quiet : List Paddle → Bool
 quiet [] = true
-quiet (p ∷ ps) = none (gesture p) && quiet ps
+quiet (p ∷ ps) = completesNothing (gesture p) && quiet ps
 
 abbrev pub recognised : List Paddle → Bool → Recognised
 recognised paddles quiet = record { paddles = paddles; quiet = quiet }

@@ -10,13 +10,13 @@ use Rattle.vault.specs.Vault.{inSetup}
 use Rattle.vault.specs.declared.Mode.{Mode}
 use Rattle.vault.specs.declared.Mode.the-variants.{Normal, Setup, Factory}
 use Rattle.vault.specs.declared.Password.{Password}
-use Rattle.lamp.specs.Lamp.{blinked}
+use Rattle.lamp.specs.Lamp.{signalSet}
 use Rattle.lamp.specs.declared.Colour.{Colour}
 use Rattle.lamp.specs.declared.Colour.the-variants.{Black, Red, Green}
-use Rattle.packet.specs.Reading.{readOf, numberOf, messageOf}
+use Rattle.packet.specs.Reading.{readOf, numberOfFrame, messageOf}
 use Rattle.packet.specs.declared.Frame.{Frame}
 use Rattle.packet.specs.declared.Frame.the-variants as frame
-use Rattle.paddle.specs.Paddle.{fresh, pressed, released, gestureUp, next}
+use Rattle.paddle.specs.Paddle.{freshPaddle, pressed, released, gestureUp, nextPaddle}
 use Rattle.paddle.specs.declared.Contact.{Contact}
 use Rattle.paddle.specs.declared.Contact.the-variants.{Local, Slave}
 use Rattle.paddle.specs.declared.Gesture.{Gesture}
@@ -39,8 +39,8 @@ use Rattle.post.specs.declared.Reply.the-variants as reply
 use Rattle.switch.specs.Switch.{Plain, plain, freshPaddles, Deed, press, release, tick, receive, restart, Event, Shown, shown}
 use Rattle.switch.specs.Paddles.{Moment, moment, after, turned, turns}
 
-abbrev pub Asked : Type 0
-Asked = Job Plain Shown
+abbrev pub SwitchJob : Type 0
+SwitchJob = Job Plain Shown
 
 -- "On a refusal count and lengths are 0 and the rest shows the switch as it stands."
 unfoldable pub refused : ℕ → Plain → Outcome Plain Shown
@@ -48,7 +48,7 @@ refused number p = outcome (shown number [] p) p
 
 -- The lamp's 30-tick blink.
 unfoldable pub signalled : Colour → Core → Core
-signalled hue c = core (c .mode) (c .dimmer) (blinked hue (c .lamp)) (c .save)
+signalled hue c = core (c .mode) (c .dimmer) (signalSet hue (c .lamp)) (c .save)
 
 -- "red on sending": edges and ticks blink in no other colour.
 unfoldable pub signalledBy : List (List ℕ) → Core → Core
@@ -56,7 +56,7 @@ signalledBy [] c = c
 signalledBy (p ∷ sent) c = signalled Red c
 
 -- An event of the paddles is done: what was sent, the next state, what became of the password.
-unfoldable pub finished : Moment → List Paddle → Asked
+unfoldable pub finished : Moment → List Paddle → SwitchJob
 finished m paddles =
     let p = plain (m .registers) (signalledBy (m .sent) (m .core)) paddles in
     done (outcome (shown 0 (m .sent) p) p) (m .change)
@@ -72,7 +72,7 @@ unfoldable pub kindOf : ℕ → Contact
 kindOf contact = if ltb contact 2 then Local else Slave
 
 abbrev pub paddleAt : ℕ → List Paddle → Paddle
-paddleAt contact paddles = getD paddles (paddleOf contact) fresh
+paddleAt contact paddles = getD paddles (paddleOf contact) freshPaddle
 
 -- The paddles after an edge of a contact, and the gesture that a release completes.
 unfoldable pub pressedAt : ℕ → List Paddle → List Paddle
@@ -84,18 +84,18 @@ releasedAt contact paddles = set paddles (paddleOf contact) (released (kindOf co
 unfoldable pub gestureAt : ℕ → List Paddle → Gesture
 gestureAt contact paddles = gestureUp (kindOf contact) (paddleAt contact paddles)
 
-unfoldable pub pressing : ℕ → Plain → Asked
-pressing contact p = finished (begun p (p .core)) (pressedAt contact (p .paddles))
+unfoldable pub jobOfPress : ℕ → Plain → SwitchJob
+jobOfPress contact p = finished (begun p (p .core)) (pressedAt contact (p .paddles))
 
-unfoldable pub releasing : ℕ → Plain → Asked
-releasing contact p =
+unfoldable pub jobOfRelease : ℕ → Plain → SwitchJob
+jobOfRelease contact p =
     finished (turned (paddleOf contact) (gestureAt contact (p .paddles)) (begun p (p .core))) (releasedAt contact (p .paddles))
 
 -- "Each tick, in order: lamp and output timers, fade or blink, top paddle, bottom paddle, and every 480th tick since start or restart the percent goes to 0xF9."
-unfoldable pub ticking : Plain → Asked
-ticking p =
+unfoldable pub jobOfTick : Plain → SwitchJob
+jobOfTick p =
     let m = turns 0 (p .paddles) (begun p (aged (p .core))) in
-    finished (after (saved (m .core)) m) (map next (p .paddles))
+    finished (after (saved (m .core)) m) (map nextPaddle (p .paddles))
 
 -- "Start and restart: one more in 0xFC, Normal, contacts up, timers clear .."
 unfoldable pub woken : List ℕ → Plain
@@ -103,8 +103,8 @@ woken all =
     let registers = applied (Count Restarts) [] all in
     plain registers (started registers) freshPaddles
 
-unfoldable pub restarting : Plain → Asked
-restarting p = done (outcome (shown 0 [] (woken (p .registers))) (woken (p .registers))) nothing
+unfoldable pub jobOfRestart : Plain → SwitchJob
+jobOfRestart p = done (outcome (shown 0 [] (woken (p .registers))) (woken (p .registers))) nothing
 
 -- "0x10 Get Registers (.. reply 0x90, first, values)"; "0x30 Report Status (reply 0x86, percent)"
 unfoldable pub replyTo : Order → Reply
@@ -128,19 +128,19 @@ hueOf reply.Status = Red
 hueOf (reply.Registers first count) = Red
 
 -- The state after an act that a packet asked for, with the values that it brings.
-unfoldable pub obeyed : Effect → List ℕ → Colour → Plain → Plain
-obeyed e values hue p = plain (applied (e .write) values (p .registers)) (signalled hue (e .core)) (p .paddles)
+unfoldable pub plainAfter : Effect → List ℕ → Colour → Plain → Plain
+plainAfter e values hue p = plain (applied (e .write) values (p .registers)) (signalled hue (e .core)) (p .paddles)
 
 -- A packet that is answered 0, and what it is answered with.
-unfoldable pub answering : Effect → List ℕ → ℕ → Reply → Plain → Seen → Outcome Plain Shown
-answering e values source r p s =
-    let next = obeyed e values (hueOf r) p in
-    outcome (shown 0 (replied (next .registers) s source r (percentOf (next .core .dimmer .level))) next) next
+unfoldable pub outcomeOf : Effect → List ℕ → ℕ → Reply → Plain → Seen → Outcome Plain Shown
+outcomeOf e values source r p s =
+    let nextPaddle = plainAfter e values (hueOf r) p in
+    outcome (shown 0 (replied (nextPaddle .registers) s source r (percentOf (nextPaddle .core .dimmer .level))) nextPaddle) nextPaddle
 
 -- Start Setup: the right password opens it, a wrong one is refused by 14.
-unfoldable pub opening : Password → Plain → Asked
-opening guess p =
-    compare guess (answering (opened (p .core)) [] 0 reply.Silence p seen.Hidden) (refused 14 p)
+unfoldable pub jobOfGuess : Password → Plain → SwitchJob
+jobOfGuess guess p =
+    compare guess (outcomeOf (opened (p .core)) [] 0 reply.Silence p seen.Hidden) (refused 14 p)
 
 -- "Outside Setup, Get Registers sends 0 for 0x02 and 0x03."
 unfoldable pub seenBy : Mode → Password → Seen
@@ -149,67 +149,67 @@ seenBy Setup w = seen.Shown w
 seenBy Factory w = seen.Hidden
 
 -- Get Registers: in Setup it shows the password, elsewhere 0 in its place.
-unfoldable pub getting : ℕ → ℕ → ℕ → Plain → Asked
-getting first count source p =
+unfoldable pub jobOfGet : ℕ → ℕ → ℕ → Plain → SwitchJob
+jobOfGet first count source p =
     let o = performed (p .registers) (order.Get first count) (p .core) in
     let r = reply.Registers first count in
     if inSetup (p .core .mode)
-    then reveal (λ w. answering o [] source r p (seen.Shown w) .shown) (answering o [] source r p seen.Hidden .next)
-    else done (answering o [] source r p seen.Hidden) nothing
+    then reveal (λ w. outcomeOf o [] source r p (seen.Shown w) .shown) (outcomeOf o [] source r p seen.Hidden .next)
+    else done (outcomeOf o [] source r p seen.Hidden) nothing
 
 -- Any other order: Set Registers brings the values behind its first argument.
-unfoldable pub obeying : Order → ℕ → List ℕ → Plain → Asked
-obeying o source values p =
+unfoldable pub jobOfAct : Order → ℕ → List ℕ → Plain → SwitchJob
+jobOfAct o source values p =
     let e = performed (p .registers) o (p .core) in
-    done (answering e values source (replyTo o) p seen.Hidden) (changeOf (e .write) values)
+    done (outcomeOf e values source (replyTo o) p seen.Hidden) (changeOf (e .write) values)
 
-unfoldable pub ordering : Order → ℕ → List ℕ → Plain → Asked
-ordering (order.Refused n) source values p = done (refused n p) nothing
-ordering (order.Open guess) source values p = opening guess p
-ordering order.Close source values p = obeying order.Close source values p
-ordering (order.Get first count) source values p = getting first count source p
-ordering (order.Set first) source values p = obeying (order.Set first) source values p
-ordering (order.Activate i) source values p = obeying (order.Activate i) source values p
-ordering (order.Deactivate i) source values p = obeying (order.Deactivate i) source values p
-ordering (order.Goto level rate) source values p = obeying (order.Goto level rate) source values p
-ordering order.Stop source values p = obeying order.Stop source values p
-ordering (order.Blink value) source values p = obeying (order.Blink value) source values p
-ordering order.Report source values p = obeying order.Report source values p
-ordering (order.Store i) source values p = obeying (order.Store i) source values p
+unfoldable pub jobOfOrder : Order → ℕ → List ℕ → Plain → SwitchJob
+jobOfOrder (order.Refused n) source values p = done (refused n p) nothing
+jobOfOrder (order.Open guess) source values p = jobOfGuess guess p
+jobOfOrder order.Close source values p = jobOfAct order.Close source values p
+jobOfOrder (order.Get first count) source values p = jobOfGet first count source p
+jobOfOrder (order.Set first) source values p = jobOfAct (order.Set first) source values p
+jobOfOrder (order.Activate i) source values p = jobOfAct (order.Activate i) source values p
+jobOfOrder (order.Deactivate i) source values p = jobOfAct (order.Deactivate i) source values p
+jobOfOrder (order.Goto level rate) source values p = jobOfAct (order.Goto level rate) source values p
+jobOfOrder order.Stop source values p = jobOfAct order.Stop source values p
+jobOfOrder (order.Blink value) source values p = jobOfAct (order.Blink value) source values p
+jobOfOrder order.Report source values p = jobOfAct order.Report source values p
+jobOfOrder (order.Store i) source values p = jobOfAct (order.Store i) source values p
 
 -- "A refusal changes .. nothing of the switch, except the lamp blink below for 4 to 8": black.
 unfoldable pub garbled : ℕ → Plain → Outcome Plain Shown
 garbled number p =
-    let next = plain (p .registers) (signalled Black (p .core)) (p .paddles) in
-    outcome (shown number [] next) next
+    let nextPaddle = plain (p .registers) (signalled Black (p .core)) (p .paddles) in
+    outcome (shown number [] nextPaddle) nextPaddle
 
 -- A packet that the reader refuses: the number is the reader's.
-abbrev unread : Frame → Plain → Asked
-unread f p = done (garbled (numberOf f) p) nothing
+abbrev unread : Frame → Plain → SwitchJob
+unread f p = done (garbled (numberOfFrame f) p) nothing
 
-unfoldable pub reading : Frame → List ℕ → Plain → Asked
-reading (frame.Read header) message p =
-    ordering (judged (p .registers) (p .core .mode) header message) (header .source) (drop 2 message) p
-reading frame.Short message p = unread frame.Short p
-reading frame.Long message p = unread frame.Long p
-reading frame.Length message p = unread frame.Length p
-reading frame.Sum message p = unread frame.Sum p
-reading frame.Reserved message p = unread frame.Reserved p
+unfoldable pub jobOfFrame : Frame → List ℕ → Plain → SwitchJob
+jobOfFrame (frame.Read header) message p =
+    jobOfOrder (judged (p .registers) (p .core .mode) header message) (header .source) (drop 2 message) p
+jobOfFrame frame.Short message p = unread frame.Short p
+jobOfFrame frame.Long message p = unread frame.Long p
+jobOfFrame frame.Length message p = unread frame.Length p
+jobOfFrame frame.Sum message p = unread frame.Sum p
+jobOfFrame frame.Reserved message p = unread frame.Reserved p
 
-unfoldable pub receiving : List ℕ → Plain → Asked
-receiving bytes p = reading (readOf bytes) (messageOf bytes) p
+unfoldable pub jobOfBytes : List ℕ → Plain → SwitchJob
+jobOfBytes bytes p = jobOfFrame (readOf bytes) (messageOf bytes) p
 
 -- "3: contact above 3"
-unfoldable pub known : ℕ → (Plain → Asked) → Plain → Asked
+unfoldable pub known : ℕ → (Plain → SwitchJob) → Plain → SwitchJob
 known contact asked p = if ltb 3 contact then done (refused 3 p) nothing else asked p
 
-unfoldable pub doing : Deed → Plain → Asked
-doing (press contact) p = known contact (pressing contact) p
-doing (release contact) p = known contact (releasing contact) p
-doing tick p = ticking p
-doing (receive bytes) p = receiving bytes p
-doing restart p = restarting p
+unfoldable pub jobOfDeed : Deed → Plain → SwitchJob
+jobOfDeed (press contact) p = known contact (jobOfPress contact) p
+jobOfDeed (release contact) p = known contact (jobOfRelease contact) p
+jobOfDeed tick p = jobOfTick p
+jobOfDeed (receive bytes) p = jobOfBytes bytes p
+jobOfDeed restart p = jobOfRestart p
 
 -- "2: buffer shorter than 48", before anything else.
-unfoldable pub job : Plain → Event → Asked
-job p e = if ltb (e .room) 48 then done (refused 2 p) nothing else doing (e .deed) p
+unfoldable pub job : Plain → Event → SwitchJob
+job p e = if ltb (e .room) 48 then done (refused 2 p) nothing else jobOfDeed (e .deed) p

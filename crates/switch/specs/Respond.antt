@@ -12,8 +12,8 @@ use Rattle.vault.specs.Product
 use Rattle.vault.specs.Vault.{password}
 use Rattle.vault.specs.declared.Mode.the-variants.{Normal}
 use Rattle.units.specs.Units.{off}
-use Rattle.dimmer.specs.Dimmer.{fresh as freshDimmer}
-use Rattle.lamp.specs.Lamp.{fresh as freshLamp}
+use Rattle.dimmer.specs.Dimmer.{freshDimmer}
+use Rattle.lamp.specs.Lamp.{freshLamp}
 use Rattle.lamp.specs.declared.Colour.the-variants.{Black}
 use Rattle.acts.specs.Core.{core}
 use Rattle.post.specs.Post.{placed}
@@ -37,7 +37,7 @@ wallSwitch = record {
 
 -- The answer to an event, and the switch after it.
 abbrev pub respond : Switch Plain → Event → Answered Plain Shown
-respond s e = Product.respond wallSwitch s e
+respond s e = Product.responseOf wallSwitch s e
 
 -- What every event function promises: the answer, the next switch, every register and every byte of the buffer are those of `respond`.
 pub record Responds (deed : Deed) (live : Live) (all out : List ℕ) (answer : Answer) (live′ : Live) (all′ out′ : List ℕ) : Type 0 where

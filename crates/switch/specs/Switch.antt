@@ -5,7 +5,7 @@ use lib.Dec.{eqb}
 use lib.ListN.{length, getD}
 use Rattle.words.specs.Words.{if_then_else_}
 use Rattle.lamp.specs.Lamp.{colour, output}
-use Rattle.paddle.specs.Paddle.{fresh}
+use Rattle.paddle.specs.Paddle.{freshPaddle}
 use Rattle.paddle.specs.declared.Paddle.{Paddle}
 use Rattle.registers.specs.Places.{digitIn, lightIn}
 use Rattle.vault.specs.Vault.{password}
@@ -26,7 +26,7 @@ plain registers core paddles = record { registers = registers; core = core; padd
 
 -- How many paddles there are, all up.
 abbrev pub freshPaddles : List Paddle
-freshPaddles = fresh ∷ fresh ∷ []
+freshPaddles = freshPaddle ∷ freshPaddle ∷ []
 
 -- The switch as the code holds it: the registers are lent, the rest goes by value.
 abbrev pub held : Live → List ℕ → Switch Plain

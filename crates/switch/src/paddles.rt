@@ -4,7 +4,7 @@ ghost use mathlib.Core.List.{[], map};
 ghost use Prim.Native.Nat.{_≤_};
 ghost use lib.ListN.{length};
 ghost use Rattle.vault.specs.Job.{nothing};
-ghost use Rattle.paddle.specs.Paddle.{next};
+ghost use Rattle.paddle.specs.Paddle.{nextPaddle};
 ghost use Rattle.post.specs.Post.{sentOf};
 ghost use Rattle.switch.specs.Paddles.{moment, turned, turns};
 ghost use Rattle.switch.specs.Code.{noted, quiet, recognised, Stands, Turned, Sends};
@@ -46,7 +46,7 @@ pub struct Recognised {
 
 // A paddle's tick depends on that paddle alone.
 pub fn recognise(paddles: [Paddle; 2]) -> Recognised
-    ensures { λ r. ⌜ r ≡ recognised (map next paddles) (quiet paddles) ⌝ }
+    ensures { λ r. ⌜ r ≡ recognised (map nextPaddle paddles) (quiet paddles) ⌝ }
 {
     let mut after = paddles;
     let mut quiet = true;

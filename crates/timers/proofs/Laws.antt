@@ -7,7 +7,7 @@ use lib.Arith.{digits-div, digits-mod}
 use borrow.Author.Tests.{lt-ltb, le-ltb, eq-eqb, ne-eqb}
 use Rattle.words.specs.Words.{if_then_else_}
 use Rattle.words.proofs.Laws.{two-ways, three-ways}
-use Rattle.timers.specs.Timers.{less, beats, turned, lessBy, turnedBy, beatsBy}
+use Rattle.timers.specs.Timers.{less, beats, metronome, lessBy, metronomeBy, beatsBy}
 
 -- A timer after no tick is as it was.
 pub less-none : (left : ℕ) → lessBy 0 left ≡ left
@@ -32,8 +32,8 @@ at-end k m h =
     (rw e (digits-mod (k / m + 1) p), rw e (digits-div (k / m + 1) p))
 
 -- A metronome after no tick is as it was, and has not beaten.
-pub turned-none : (period left : ℕ) → turnedBy 0 period left ≡ left
-unfolding turnedBy
+pub turned-none : (period left : ℕ) → metronomeBy 0 period left ≡ left
+unfolding metronomeBy
 turned-none period left = rw (le-ltb left 0 (omega arith)) (omega arith)
 
 pub beats-none : (period left : ℕ) → beatsBy 0 period left ≡ 0
@@ -43,22 +43,22 @@ beats-none period left = rw (le-ltb left 0 (omega arith))
 -- One tick more, where the metronome stands above 0, at 0, and later within a turn and at its end.
 OneMore : (n period left : ℕ) → Type 0
 OneMore n period left =
-    (turned period (turnedBy n period left) ≡ turnedBy (suc n) period left)
-    × (beatsBy (suc n) period left ≡ (if beats (turnedBy n period left) then beatsBy n period left + 1 else beatsBy n period left))
+    (metronome period (metronomeBy n period left) ≡ metronomeBy (suc n) period left)
+    × (beatsBy (suc n) period left ≡ (if beats (metronomeBy n period left) then beatsBy n period left + 1 else beatsBy n period left))
 
 above : (n period left : ℕ) → n < left → OneMore n period left
-unfolding OneMore less turned turnedBy beatsBy
+unfolding OneMore less metronome metronomeBy beatsBy
 above n period left h =
     simp (le-ltb left n (omega arith), le-ltb left (suc n) (omega arith), ne-eqb (left - n) 0 (omega arith)) (omega arith, refl)
 
 at-zero : (n period left : ℕ) → n ≡ left → OneMore n period left
-unfolding OneMore less turned turnedBy beatsBy
+unfolding OneMore less metronome metronomeBy beatsBy
 at-zero n period left h =
     let first : suc n - left - 1 ≡ 0 = omega arith in
     simp (le-ltb left n (omega arith), lt-ltb left (suc n) (omega arith), eq-eqb (left - n) 0 (omega arith), first, zero-mod, zero-div) (omega arith, refl)
 
 later : (n period left : ℕ) → left < n → OneMore n period left
-unfolding OneMore less turned turnedBy beatsBy
+unfolding OneMore less metronome metronomeBy beatsBy
 later n period left h =
     let k = n - left - 1 in
     let m = max 1 period in
@@ -77,12 +77,12 @@ one-more : (n period left : ℕ) → OneMore n period left
 one-more n period left = three-ways n left (above n period left) (at-zero n period left) (later n period left)
 
 -- A metronome after one tick more.
-pub turned-more : (n period left : ℕ) → turned period (turnedBy n period left) ≡ turnedBy (suc n) period left
+pub turned-more : (n period left : ℕ) → metronome period (metronomeBy n period left) ≡ metronomeBy (suc n) period left
 unfolding OneMore
 turned-more n period left = one-more n period left .0
 
 -- It has beaten once more where that tick finds it at 0.
-pub beats-more : (n period left : ℕ) → beatsBy (suc n) period left ≡ (if beats (turnedBy n period left) then beatsBy n period left + 1 else beatsBy n period left)
+pub beats-more : (n period left : ℕ) → beatsBy (suc n) period left ≡ (if beats (metronomeBy n period left) then beatsBy n period left + 1 else beatsBy n period left)
 unfolding OneMore
 beats-more n period left = one-more n period left .1
 

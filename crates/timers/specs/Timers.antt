@@ -12,15 +12,15 @@ less left = left - 1
 abbrev pub beats : ℕ → Bool
 beats left = eqb left 0
 
-unfoldable pub turned : ℕ → ℕ → ℕ
-turned period left = if beats left then less period else less left
+unfoldable pub metronome : ℕ → ℕ → ℕ
+metronome period left = if beats left then less period else less left
 
 -- Both after n ticks, in closed form, and how often a metronome has beaten by then.
 unfoldable pub lessBy : ℕ → ℕ → ℕ
 lessBy n left = left - n
 
-unfoldable pub turnedBy : ℕ → ℕ → ℕ → ℕ
-turnedBy n period left = if ltb left n then less period - (n - left - 1) % max 1 period else left - n
+unfoldable pub metronomeBy : ℕ → ℕ → ℕ → ℕ
+metronomeBy n period left = if ltb left n then less period - (n - left - 1) % max 1 period else left - n
 
 unfoldable pub beatsBy : ℕ → ℕ → ℕ → ℕ
 beatsBy n period left = if ltb left n then (n - left - 1) / max 1 period + 1 else 0

@@ -1,7 +1,7 @@
 // The two kinds of counter that a switch has. Both count down and know no date: a timer stands still at 0, and a metronome
 // beats at the tick that finds it at 0 and starts over.
 ghost use mathlib.Core.Path.{_≡_};
-ghost use Rattle.timers.specs.Timers.{less, turned};
+ghost use Rattle.timers.specs.Timers.{less, metronome};
 
 // A timer one tick later.
 pub fn run(left: u16) -> u16
@@ -15,7 +15,7 @@ pub fn run(left: u16) -> u16
 
 // A metronome one tick later.
 pub fn turn(period: u16, left: u16) -> u16
-    ensures { λ r. ⌜ r ≡ turned period left ⌝ }
+    ensures { λ r. ⌜ r ≡ metronome period left ⌝ }
 {
     if left == 0 {
         return run(period);

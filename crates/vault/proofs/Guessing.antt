@@ -9,7 +9,7 @@ use Rattle.words.proofs.Laws.{neither}
 use Rattle.vault.specs.Guesses.{Untried, among}
 use Rattle.vault.specs.Job.{Byte, Job, became, change, changed, compare, done, guessed, kept, put, reveal, settled}
 use Rattle.vault.specs.Machine.{gathered}
-use Rattle.vault.specs.Product.{Careful, Product, Proper, Site, StaysOut, Whole, alone, flats, guesses, respond}
+use Rattle.vault.specs.Product.{Careful, Product, Proper, Site, StaysOut, Whole, alone, flats, guesses, responseOf}
 use Rattle.vault.specs.Vault.{inSetup, matches}
 use Rattle.vault.specs.declared.Password.{Password}
 use Rattle.vault.proofs.Count.{among-append}
@@ -53,14 +53,14 @@ settled-near P p w v u (reveal show next) proper out known outv untried = absurd
 
 -- A switch of a careful product hides its password.
 pub hidden-alone : (P : Product) → Careful P → Hidden (alone P)
-unfolding respond
+unfolding responseOf
 hidden-alone P careful = record {
   Near = λ w s t. (s .plain ≡ t .plain) × alone P .Outside s × Known w (s .password) (t .password);
   begins = λ w s out. (refl, out, inr refl);
   outside = λ w s t near. subst (λ p. inSetup (P .mode p) ≡ false) (near .0) (near .1);
   alike = λ w s t near. near .0;
   keeps = λ w s t e near out untried.
-      let step = subst (λ p. Same (respond P s e) (settled (t .password) (P .job p e)) × Known w (respond P s e .next .password) (settled (t .password) (P .job p e) .next .password))
+      let step = subst (λ p. Same (responseOf P s e) (settled (t .password) (P .job p e)) × Known w (responseOf P s e .next .password) (settled (t .password) (P .job p e) .next .password))
       (near .0) (settled-near P (s .plain) w (s .password) (t .password) (P .job (s .plain) e) (careful (s .plain) e) (near .1) (near .2) out untried) in
       (step .0 .0, (step .0 .1, out, step .1));
 }

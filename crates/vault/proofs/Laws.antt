@@ -4,7 +4,7 @@ use mathlib.Core.Path.{_≡_, refl, sym, ap, ap₂, _∙_, subst}
 use borrow.Author.Tests.{eqb-true, eq-eqb}
 use lib.Dec.{eqb}
 use Rattle.vault.specs.Job.{Change, Outcome, Switch, answered, became, changed, compare, done, nothing, outcome, reveal, settled}
-use Rattle.vault.specs.Product.{Product, respond}
+use Rattle.vault.specs.Product.{Product, responseOf}
 use Rattle.vault.specs.Vault.{matches, password}
 use Rattle.vault.specs.declared.Password.{Password}
 
@@ -46,24 +46,24 @@ changed-nothing w = refl
 
 module _ (P : Product) (s : Switch (P .Plain)) (e : P .Event) where
   -- A job that is done: the password is kept or put as it says.
-  pub respond-done : (o : Outcome (P .Plain) (P .Shown)) (c : Change) → P .job (s .plain) e ≡ done o c → respond P s e ≡ answered o (changed c (s .password))
-  unfolding respond settled
+  pub respond-done : (o : Outcome (P .Plain) (P .Shown)) (c : Change) → P .job (s .plain) e ≡ done o c → responseOf P s e ≡ answered o (changed c (s .password))
+  unfolding responseOf settled
   respond-done o c h = ap (settled (s .password)) h
 
   -- A right guess.
   pub respond-right : (guess : Password) (right wrong : Outcome (P .Plain) (P .Shown)) → P .job (s .plain) e ≡ compare guess right wrong
-      → matches (s .password) guess ≡ true → respond P s e ≡ answered right (s .password)
-  unfolding respond settled
+      → matches (s .password) guess ≡ true → responseOf P s e ≡ answered right (s .password)
+  unfolding responseOf settled
   respond-right guess right wrong h m = ap (settled (s .password)) h ∙ rw m
 
   -- A wrong guess.
   pub respond-wrong : (guess : Password) (right wrong : Outcome (P .Plain) (P .Shown)) → P .job (s .plain) e ≡ compare guess right wrong
-      → matches (s .password) guess ≡ false → respond P s e ≡ answered wrong (s .password)
-  unfolding respond settled
+      → matches (s .password) guess ≡ false → responseOf P s e ≡ answered wrong (s .password)
+  unfolding responseOf settled
   respond-wrong guess right wrong h m = ap (settled (s .password)) h ∙ rw m
 
   -- A job that reveals: the password is shown and kept.
   pub respond-reveal : (show : Password → P .Shown) (next : P .Plain) → P .job (s .plain) e ≡ reveal show next
-      → respond P s e ≡ answered (outcome (show (s .password)) next) (s .password)
-  unfolding respond settled
+      → responseOf P s e ≡ answered (outcome (show (s .password)) next) (s .password)
+  unfolding responseOf settled
   respond-reveal show next h = ap (settled (s .password)) h

@@ -7,7 +7,7 @@ use lib.Dec.{eqb}
 use Rattle.words.proofs.Laws.{neither}
 use Rattle.vault.specs.Guesses.{Untried, among}
 use Rattle.vault.specs.Job.{Answered, Job, Outcome, SameWay, Switch, Unrevealed, compare, done, guessed, reveal, settled}
-use Rattle.vault.specs.Product.{Careful, Product, Proper, Site, alone, flats, respond}
+use Rattle.vault.specs.Product.{Careful, Product, Proper, Site, alone, flats, responseOf}
 use Rattle.vault.specs.Promises.{SecretAtOnce}
 use Rattle.vault.specs.Vault.{inSetup, matches}
 use Rattle.vault.specs.declared.Password.{Password}
@@ -26,10 +26,10 @@ same-way v w (reveal show next) h = (h, refl)
 
 -- The general one-step law, in Setup or out of it: two switches alike in all but the password, and a job that goes the same way for both.
 pub one-step : (P : Product) (s t : Switch (P .Plain)) (e : P .Event) → s .plain ≡ t .plain
-    → SameWay (s .password) (t .password) (P .job (s .plain) e) → Same (respond P s e) (respond P t e)
-unfolding respond
+    → SameWay (s .password) (t .password) (P .job (s .plain) e) → Same (responseOf P s e) (responseOf P t e)
+unfolding responseOf
 one-step P s t e h way =
-    subst (λ p. Same (respond P s e) (settled (t .password) (P .job p e))) h (same-way (s .password) (t .password) (P .job (s .plain) e) way)
+    subst (λ p. Same (responseOf P s e) (settled (t .password) (P .job p e))) h (same-way (s .password) (t .password) (P .job (s .plain) e) way)
 
 -- A job that reveals nothing, and whose guess, if it compares one, is wrong for both passwords, goes the same way for both.
 pub wrong-for-both : {Plain Shown : Type 0} (v w : Password) (j : Job Plain Shown) → Unrevealed j → Untried v (guessed j) → Untried w (guessed j) → SameWay v w j
@@ -59,7 +59,7 @@ its-own-outside S s k e out = rw (eq-eqb k k refl) at out
 
 -- One event tells a guest nothing of the password, unless it puts one of the two switches into Setup.
 pub secret-at-once : (P : Product) → Careful P → SecretAtOnce (alone P)
-unfolding respond
+unfolding responseOf
 secret-at-once P careful s t e alike out outs outt =
     one-step P s t e alike (outside-same-way P (s .plain) (s .password) (t .password) (P .job (s .plain) e) (careful (s .plain) e) out outs
     (subst (λ p. inSetup (P .mode (settled (t .password) (P .job p e) .next .plain)) ≡ false) (sym alike) outt))
@@ -73,6 +73,6 @@ secret-at-once-in-flats S once s t e alike out outs outt =
 
 -- The right guess does open Setup.
 pub right-guess-opens : (P : Product) → Careful P → (s : Switch (P .Plain)) (e : P .Event) (guess : Password) (right wrong : Outcome (P .Plain) (P .Shown))
-    → P .job (s .plain) e ≡ compare guess right wrong → matches (s .password) guess ≡ true → inSetup (P .mode (respond P s e .next .plain)) ≡ true
+    → P .job (s .plain) e ≡ compare guess right wrong → matches (s .password) guess ≡ true → inSetup (P .mode (responseOf P s e .next .plain)) ≡ true
 right-guess-opens P careful s e guess right wrong h m =
     ap (λ a. inSetup (P .mode (a .next .plain))) (respond-right P s e guess right wrong h m) ∙ subst (Proper P (s .plain)) h (careful (s .plain) e)

@@ -3,7 +3,7 @@ use mathlib.Core.Bool.{true}
 use mathlib.Core.Path.{_≡_, refl}
 use Prim.Native.Nat.{ℕ}
 use Rattle.vault.specs.Job.{Job, change, compare, done, nothing, outcome, put, reveal, switch}
-use Rattle.vault.specs.Product.{Careful, Product, respond}
+use Rattle.vault.specs.Product.{Careful, Product, responseOf}
 use Rattle.vault.specs.Promises.{KeepsItsPassword}
 use Rattle.vault.specs.Vault.{inSetup}
 use Rattle.vault.specs.declared.Mode.{Mode}
@@ -40,6 +40,6 @@ toy-careful m reset = λ _. tt
 toy-keeps : KeepsItsPassword toy
 toy-keeps = keeps-its-password toy toy-careful
 
-toy-opens : (w : Password) → inSetup (respond toy (switch Normal w) (try w) .next .plain) ≡ true
+toy-opens : (w : Password) → inSetup (responseOf toy (switch Normal w) (try w) .next .plain) ≡ true
 unfolding asked
 toy-opens w = right-guess-opens toy toy-careful (switch Normal w) (try w) w (outcome 0 Setup) (outcome 14 Normal) refl (matches-itself w)

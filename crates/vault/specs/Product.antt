@@ -18,8 +18,8 @@ pub record Product : Type 1 where
   pub job : Plain → Event → Job Plain Shown
 
 -- The answer to an event, and the switch after it.
-unfoldable pub respond : (P : Product) → Switch (P .Plain) → P .Event → Answered (P .Plain) (P .Shown)
-respond P s e = settled (s .password) (P .job (s .plain) e)
+unfoldable pub responseOf : (P : Product) → Switch (P .Plain) → P .Event → Answered (P .Plain) (P .Shown)
+responseOf P s e = settled (s .password) (P .job (s .plain) e)
 
 -- The product as a machine: its states are switches.
 abbrev pub machine : Product → Machine
@@ -27,8 +27,8 @@ machine P = record {
   State = Switch (P .Plain);
   Event = P .Event;
   Shown = P .Shown;
-  shown = λ s e. respond P s e .shown;
-  next = λ s e. respond P s e .next;
+  shown = λ s e. responseOf P s e .shown;
+  next = λ s e. responseOf P s e .next;
 }
 
 -- Both bytes are kept, or both are put.

@@ -1,18 +1,18 @@
 use borrow.Author.Needs.{needs}
 use Rattle.words.proofs.Laws.{tests}
-use Rattle.dimmer.specs.Dimmer.{blinkTicks}
+use Rattle.dimmer.specs.Dimmer.{flipTicks}
 use Rattle.dimmer.proofs.blink_ticks.Statement.{statement}
 use Rattle.dimmer.proofs.blink_ticks.Tie as tie
 
 returns : tie.Need-returns
-unfolding blinkTicks
+unfolding flipTicks
 returns c = search tests
 
 mul-result : tie.Need-mul-result
 mul-result c = search needs
 
 returns-2 : tie.Need-returns-2
-unfolding blinkTicks
+unfolding flipTicks
 returns-2 c = search tests
 
 pub blink-ticks-spec : {M : Type 1} → statement M

@@ -2,12 +2,12 @@ use borrow.Author.Needs.{needs}
 use mathlib.Core.Path.{sym}
 use lib.ListN.{List·getD-eq-default}
 use Rattle.words.proofs.Laws.{tests}
-use Rattle.dimmer.specs.Dimmer.{table, ticksOf}
+use Rattle.dimmer.specs.Dimmer.{table, ticksPerStep}
 use Rattle.dimmer.proofs.ticks.Statement.{statement}
 use Rattle.dimmer.proofs.ticks.Tie as tie
 
 returns : tie.Need-returns
-unfolding ticksOf
+unfolding ticksPerStep
 returns c = sym (List·getD-eq-default table 0 (c .if1 .taken))
 
 mul-result : tie.Need-mul-result
@@ -17,7 +17,7 @@ array-read-result : tie.Need-array-read-result
 array-read-result c = search needs
 
 returns-2 : tie.Need-returns-2
-unfolding ticksOf
+unfolding ticksPerStep
 returns-2 c = search tests
 
 pub ticks-spec : {M : Type 1} → statement M

@@ -1,6 +1,6 @@
 use borrow.Author.Needs.{needs}
 use Rattle.words.proofs.Laws.{tests}
-use Rattle.judge.specs.Judge.{inRange}
+use Rattle.judge.specs.Judge.{registersInRange}
 use Rattle.judge.proofs.in_range.Statement.{statement}
 use Rattle.judge.proofs.in_range.Tie as tie
 
@@ -8,15 +8,15 @@ add-result : tie.Need-add-result
 add-result c = search needs
 
 returns : tie.Need-returns
-unfolding inRange
+unfolding registersInRange
 returns c = search tests
 
 returns-2 : tie.Need-returns-2
-unfolding inRange
+unfolding registersInRange
 returns-2 c = search tests
 
 returns-3 : tie.Need-returns-3
-unfolding inRange
+unfolding registersInRange
 returns-3 c = search tests
 
 pub in-range-spec : {M : Type 1} → statement M

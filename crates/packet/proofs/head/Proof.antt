@@ -6,7 +6,7 @@ use mathlib.Core.List.{[], _∷_}
 use lib.ListN.{length-set}
 use lib.Seq.{sets-eq}
 use denote.Ref.{now}
-use Rattle.packet.specs.Layout.{headed, firstByte, secondByte}
+use Rattle.packet.specs.Layout.{headBytes, firstByte, secondByte}
 use Rattle.packet.proofs.Laws.{ranges}
 use Rattle.packet.proofs.head.Statement.{statement}
 use Rattle.packet.proofs.head.Tie as tie
@@ -42,7 +42,7 @@ same-length : tie.Need-same-length
 same-length c = search needs
 
 returns : tie.Need-returns
-unfolding headed
+unfolding headBytes
 returns c =
     let a = c .before .before .before .args in
     let h = a .header in

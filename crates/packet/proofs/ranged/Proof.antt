@@ -1,31 +1,31 @@
 -- `ranged` meets its contract: each test is one of the writer's ranges.
 use Rattle.words.proofs.Laws.{tests}
-use Rattle.packet.specs.Writing.{inRange}
+use Rattle.packet.specs.Writing.{fieldsInRange}
 use Rattle.packet.proofs.ranged.Statement.{statement}
 use Rattle.packet.proofs.ranged.Tie as tie
 
 returns : tie.Need-returns
-unfolding inRange
+unfolding fieldsInRange
 returns c = search tests
 
 returns-2 : tie.Need-returns-2
-unfolding inRange
+unfolding fieldsInRange
 returns-2 c = search tests
 
 returns-3 : tie.Need-returns-3
-unfolding inRange
+unfolding fieldsInRange
 returns-3 c = search tests
 
 returns-4 : tie.Need-returns-4
-unfolding inRange
+unfolding fieldsInRange
 returns-4 c = search tests
 
 returns-5 : tie.Need-returns-5
-unfolding inRange
+unfolding fieldsInRange
 returns-5 c = search tests
 
 returns-6 : tie.Need-returns-6
-unfolding inRange
+unfolding fieldsInRange
 returns-6 c = search tests
 
 pub ranged-spec : {M : Type 1} → statement M

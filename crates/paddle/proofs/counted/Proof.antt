@@ -1,5 +1,5 @@
 use Rattle.words.proofs.Laws.{tests}
-use Rattle.paddle.specs.Paddle.{counted}
+use Rattle.paddle.specs.Paddle.{oneTapMore}
 use borrow.Author.Needs.{needs}
 use Rattle.paddle.proofs.counted.Statement.{statement}
 use Rattle.paddle.proofs.counted.Tie as tie
@@ -8,11 +8,11 @@ add-result : tie.Need-add-result
 add-result c = search needs
 
 returns : tie.Need-returns
-unfolding counted
+unfolding oneTapMore
 returns c = search tests
 
 returns-2 : tie.Need-returns-2
-unfolding counted
+unfolding oneTapMore
 returns-2 c = search tests
 
 pub counted-spec : {M : Type 1} → statement M

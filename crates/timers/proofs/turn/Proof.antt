@@ -1,6 +1,6 @@
 use borrow.Author.Needs.{needs}
 use borrow.Author.Tests.{ne-eqb}
-use Rattle.timers.specs.Timers.{turned}
+use Rattle.timers.specs.Timers.{metronome}
 use Rattle.timers.proofs.turn.Statement.{statement}
 use Rattle.timers.proofs.turn.Tie as tie
 
@@ -8,14 +8,14 @@ run-requires : tie.Need-run-requires
 run-requires c κs = search needs
 
 returns : tie.Need-returns
-unfolding turned
+unfolding metronome
 returns c = simp (c .run .ensures, c .before .if1 .taken)
 
 run-requires-2 : tie.Need-run-requires-2
 run-requires-2 c κs = search needs
 
 returns-2 : tie.Need-returns-2
-unfolding turned
+unfolding metronome
 returns-2 c = simp (c .run2 .ensures, ne-eqb _ _ (c .before .if1 .left))
 
 pub turn-spec : {M : Type 1} → statement M

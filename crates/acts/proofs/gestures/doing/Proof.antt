@@ -1,6 +1,6 @@
 use borrow.Author.Needs.{needs}
 use Rattle.words.proofs.Laws.{tests}
-use Rattle.acts.specs.Gestures.{doing}
+use Rattle.acts.specs.Gestures.{byAction}
 use Rattle.acts.proofs.gestures.doing.Statement.{statement}
 use Rattle.acts.proofs.gestures.doing.Tie as tie
 
@@ -8,7 +8,7 @@ setting-requires : tie.Need-setting-requires
 setting-requires c κs = search needs
 
 returns : tie.Need-returns
-unfolding doing
+unfolding byAction
 returns c = search (tests, c .setting .ensures)
 
 pub doing-spec : {M : Type 1} → statement M

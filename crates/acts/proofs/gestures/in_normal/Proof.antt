@@ -1,5 +1,5 @@
 use borrow.Author.Needs.{needs}
-use Rattle.acts.specs.Gestures.{inNormal}
+use Rattle.acts.specs.Gestures.{actedInNormal}
 use Rattle.acts.proofs.gestures.in_normal.Statement.{statement}
 use Rattle.acts.proofs.gestures.in_normal.Tie as tie
 
@@ -34,19 +34,19 @@ unwritten-requires-3 : tie.Need-unwritten-requires-3
 unwritten-requires-3 c κs = search needs
 
 returns : tie.Need-returns
-unfolding inNormal
+unfolding actedInNormal
 returns c = simp (c .unwritten .ensures, c .before .enum-told .given .1)
 
 returns-2 : tie.Need-returns-2
-unfolding inNormal
+unfolding actedInNormal
 returns-2 c = simp (c .taps-in-normal .ensures, c .before .before .gesture .given .1)
 
 returns-3 : tie.Need-returns-3
-unfolding inNormal
+unfolding actedInNormal
 returns-3 c = simp (c .unwritten2 .ensures, c .before .holding .ensures, c .before .before .enum-told2 .given .1)
 
 returns-4 : tie.Need-returns-4
-unfolding inNormal
+unfolding actedInNormal
 returns-4 c = simp (c .unwritten3 .ensures, c .before .stopping .ensures, c .before .before .enum-told3 .given .1)
 
 pub in-normal-spec : {M : Type 1} → statement M

@@ -1,5 +1,5 @@
 use borrow.Author.Needs.{needs}
-use Rattle.dimmer.specs.Dimmer.{blinked}
+use Rattle.dimmer.specs.Dimmer.{setBlinking}
 use Rattle.dimmer.proofs.Dimmer.blink.Statement.{statement}
 use Rattle.dimmer.proofs.Dimmer.blink.Tie as tie
 
@@ -10,7 +10,7 @@ run-requires : tie.Need-run-requires
 run-requires c κs = search needs
 
 returns : tie.Need-returns
-unfolding blinked
+unfolding setBlinking
 returns c = cc
 
 pub blink-spec : {M : Type 1} → statement M

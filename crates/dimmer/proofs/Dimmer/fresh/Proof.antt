@@ -1,10 +1,10 @@
 use mathlib.Core.Path.{refl}
-use Rattle.dimmer.specs.Dimmer.{fresh}
+use Rattle.dimmer.specs.Dimmer.{freshDimmer}
 use Rattle.dimmer.proofs.Dimmer.fresh.Statement.{statement}
 use Rattle.dimmer.proofs.Dimmer.fresh.Tie as tie
 
 returns : tie.Need-returns
-unfolding fresh
+unfolding freshDimmer
 returns c = refl
 
 pub fresh-spec : {M : Type 1} → statement M

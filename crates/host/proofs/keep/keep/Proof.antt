@@ -1,4 +1,4 @@
-use Rattle.host.specs.Keeping.{kept}
+use Rattle.host.specs.Keeping.{keptAt}
 use mathlib.Core.Path.{sym}
 use borrow.Author.Tests.{eq-eqb, ne-eqb}
 use lib.Seq.{set-getD}
@@ -10,11 +10,11 @@ element-write-numbers : tie.Need-element-write-numbers
 element-write-numbers c = search needs
 
 returns : tie.Need-returns
-unfolding kept
+unfolding keptAt
 returns c = rw (ne-eqb _ _ (c .if1 .taken))
 
 returns-2 : tie.Need-returns-2
-unfolding kept
+unfolding keptAt
 returns-2 c = rw (eq-eqb _ _ (c .if1 .left)) (sym (set-getD _ _ _))
 
 pub keep-spec : {M : Type 1} → statement M

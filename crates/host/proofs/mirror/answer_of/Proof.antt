@@ -1,5 +1,5 @@
 use Rattle.words.proofs.Laws.{tests}
-use Rattle.host.specs.Mirror.{answerOf}
+use Rattle.host.specs.Mirror.{inNumbers}
 use borrow.Author.Needs.{needs}
 use Rattle.host.proofs.mirror.answer_of.Statement.{statement}
 use Rattle.host.proofs.mirror.answer_of.Tie as tie
@@ -11,7 +11,7 @@ mode-number-requires : tie.Need-mode-number-requires
 mode-number-requires c κs = search needs
 
 returns : tie.Need-returns
-unfolding answerOf
+unfolding inNumbers
 returns c = search (tests, c .mode-number .ensures, c .before .colour-number .ensures)
 
 pub answer-of-spec : {M : Type 1} → statement M

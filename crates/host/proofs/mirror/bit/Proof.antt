@@ -1,14 +1,14 @@
 use Rattle.words.proofs.Laws.{tests}
-use Rattle.host.specs.Mirror.{bit}
+use Rattle.host.specs.Mirror.{flagNumber}
 use Rattle.host.proofs.mirror.bit.Statement.{statement}
 use Rattle.host.proofs.mirror.bit.Tie as tie
 
 returns : tie.Need-returns
-unfolding bit
+unfolding flagNumber
 returns c = search (tests, c .if1 .taken)
 
 returns-2 : tie.Need-returns-2
-unfolding bit
+unfolding flagNumber
 returns-2 c = search (tests, c .if1 .left)
 
 pub bit-spec : {M : Type 1} → statement M

@@ -1,4 +1,4 @@
-use Rattle.host.specs.Mirror.{liveOf}
+use Rattle.host.specs.Mirror.{liveFrom}
 use borrow.Author.Needs.{needs}
 use Rattle.host.proofs.mirror.live_of.Statement.{statement}
 use Rattle.host.proofs.mirror.live_of.Tie as tie
@@ -13,7 +13,7 @@ paddles-of-requires : tie.Need-paddles-of-requires
 paddles-of-requires c κs = search needs
 
 returns : tie.Need-returns
-unfolding liveOf
+unfolding liveFrom
 returns c = simp (c .paddles-of .ensures, c .before .core-of .ensures, c .before .before .password-of .ensures)
 
 pub live-of-spec : {M : Type 1} → statement M

@@ -1,4 +1,4 @@
-use Rattle.host.specs.Mirror.{paddleOf}
+use Rattle.host.specs.Mirror.{paddleFrom}
 use borrow.Author.Needs.{needs}
 use Rattle.host.proofs.mirror.paddle_of.Statement.{statement}
 use Rattle.host.proofs.mirror.paddle_of.Tie as tie
@@ -46,7 +46,7 @@ element-copy-out-t27 : tie.Need-element-copy-out-t27
 element-copy-out-t27 c = search needs
 
 returns : tie.Need-returns
-unfolding paddleOf
+unfolding paddleFrom
 returns c = simp (c .before .before .before .truth2 .ensures, c .before .before .before .before .before .truth .ensures)
 
 pub paddle-of-spec : {M : Type 1} → statement M

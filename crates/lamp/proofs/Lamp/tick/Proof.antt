@@ -1,4 +1,4 @@
-use Rattle.lamp.specs.Lamp.{next}
+use Rattle.lamp.specs.Lamp.{nextLamp}
 use borrow.Author.Needs.{needs}
 use Rattle.lamp.proofs.Lamp.tick.Statement.{statement}
 use Rattle.lamp.proofs.Lamp.tick.Tie as tie
@@ -16,7 +16,7 @@ run-requires-3 : tie.Need-run-requires-3
 run-requires-3 c κs = search needs
 
 returns : tie.Need-returns
-unfolding next
+unfolding nextLamp
 returns c = simp (c .run3 .ensures, c .before .run2 .ensures, c .before .before .turn .ensures, c .before .before .before .run .ensures)
 
 pub tick-spec : {M : Type 1} → statement M

@@ -1,6 +1,6 @@
 use borrow.Author.Needs.{needs}
 use Rattle.words.proofs.Laws.{tests}
-use Rattle.paddle.specs.Paddle.{none}
+use Rattle.paddle.specs.Paddle.{completesNothing}
 use Rattle.paddle.proofs.Gesture.none.Statement.{statement}
 use Rattle.paddle.proofs.Gesture.none.Tie as tie
 
@@ -17,19 +17,19 @@ enum-told-4 : tie.Need-enum-told-4
 enum-told-4 c = search needs
 
 returns : tie.Need-returns
-unfolding none
+unfolding completesNothing
 returns c = search tests
 
 returns-2 : tie.Need-returns-2
-unfolding none
+unfolding completesNothing
 returns-2 c = search tests
 
 returns-3 : tie.Need-returns-3
-unfolding none
+unfolding completesNothing
 returns-3 c = search tests
 
 returns-4 : tie.Need-returns-4
-unfolding none
+unfolding completesNothing
 returns-4 c = search tests
 
 pub none-spec : {M : Type 1} → statement M

@@ -1,4 +1,4 @@
-use Rattle.paddle.specs.Paddle.{begun}
+use Rattle.paddle.specs.Paddle.{holdFrom}
 use borrow.Author.Needs.{needs}
 use Rattle.paddle.proofs.Paddle.begun.Statement.{statement}
 use Rattle.paddle.proofs.Paddle.begun.Tie as tie
@@ -7,11 +7,11 @@ down-requires : tie.Need-down-requires
 down-requires c κs = search needs
 
 returns : tie.Need-returns
-unfolding begun
+unfolding holdFrom
 returns c = simp (← c .before .down .ensures, c .if1 .taken)
 
 returns-2 : tie.Need-returns-2
-unfolding begun
+unfolding holdFrom
 returns-2 c = simp (← c .before .down .ensures, c .if1 .left)
 
 pub begun-spec : {M : Type 1} → statement M

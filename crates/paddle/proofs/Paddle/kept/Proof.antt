@@ -1,4 +1,4 @@
-use Rattle.paddle.specs.Paddle.{kept}
+use Rattle.paddle.specs.Paddle.{tapsKept}
 use borrow.Author.Needs.{needs}
 use Rattle.paddle.proofs.Paddle.kept.Statement.{statement}
 use Rattle.paddle.proofs.Paddle.kept.Tie as tie
@@ -7,11 +7,11 @@ ends-requires : tie.Need-ends-requires
 ends-requires c κs = search needs
 
 returns : tie.Need-returns
-unfolding kept
+unfolding tapsKept
 returns c = simp (← c .before .ends .ensures, c .if1 .taken)
 
 returns-2 : tie.Need-returns-2
-unfolding kept
+unfolding tapsKept
 returns-2 c = simp (← c .before .ends .ensures, c .if1 .left)
 
 pub kept-spec : {M : Type 1} → statement M

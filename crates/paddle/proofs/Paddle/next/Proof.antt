@@ -1,4 +1,4 @@
-use Rattle.paddle.specs.Paddle.{next}
+use Rattle.paddle.specs.Paddle.{nextPaddle}
 use borrow.Author.Needs.{needs}
 use Rattle.paddle.proofs.Paddle.next.Statement.{statement}
 use Rattle.paddle.proofs.Paddle.next.Tie as tie
@@ -13,7 +13,7 @@ kept-requires : tie.Need-kept-requires
 kept-requires c κs = search needs
 
 returns : tie.Need-returns
-unfolding next
+unfolding nextPaddle
 returns c = simp (c .kept .ensures, c .before .run .ensures, c .before .before .left .ensures)
 
 pub next-spec : {M : Type 1} → statement M

@@ -1,6 +1,6 @@
 use borrow.Author.Needs.{needs}
 use Rattle.words.proofs.Laws.{tests}
-use Rattle.registers.specs.Write.{counted}
+use Rattle.registers.specs.Write.{oneMore}
 use Rattle.registers.proofs.write.more.Statement.{statement}
 use Rattle.registers.proofs.write.more.Tie as tie
 
@@ -8,11 +8,11 @@ add-result : tie.Need-add-result
 add-result c = search needs
 
 returns : tie.Need-returns
-unfolding counted
+unfolding oneMore
 returns c = search tests
 
 returns-2 : tie.Need-returns-2
-unfolding counted
+unfolding oneMore
 returns-2 c = search tests
 
 pub more-spec : {M : Type 1} → statement M
