@@ -5,7 +5,6 @@ use Prim.Native.Nat.{ℕ, _≤_}
 use native.Mathlib.Omega.{arith}
 use lib.Dec.{eqb, ltb}
 use borrow.Author.Tests.{eqb-true}
-use Rattle.words.specs.Words.{if_then_else_}
 use Rattle.words.proofs.Laws.{both, cases}
 use Rattle.units.specs.Units.{percent}
 use Rattle.units.proofs.Laws.{step-within}
@@ -21,13 +20,13 @@ use Rattle.paddle.specs.declared.Gesture.the-variants.{Nothing, Taps, Hold, Rel
 use Rattle.registers.specs.Places.{dimmingIn, singleIn, doubleIn, savedIn, componentIn}
 use Rattle.registers.specs.declared.write.Write.the-variants.{Nothing as Unwritten}
 use Rattle.acts.specs.Core
-use Rattle.acts.specs.Core.{effect, unwritten, startLevel, started, aged, saved, setting, stopping, entering, opened}
-use Rattle.acts.specs.Orders
+use Rattle.acts.specs.Core.{unwritten, startLevel, started, aged, setting, stopping, entering, opened}
 use Rattle.acts.specs.Orders.{blinking, storing, performed}
 use Rattle.acts.specs.Gestures
 use Rattle.acts.specs.Gestures.{far, byAction, holding, tapsInNormal, tapsInSetup, tapsInFactory, actedInNormal, actedInSetup, actedInFactory, actedIn, acted}
 use Rattle.acts.specs.declared.Core.{Core}
 use Rattle.acts.specs.declared.Effect.{Effect}
+use Rattle.acts.specs.Code.{orderWrites, orderLeads}
 
 -- No gesture, no act.
 nothing-in : (mode : Mode) (all : List ℕ) (paddle : ℕ) (c : Core) → actedIn mode all paddle Nothing c ≡ unwritten c
@@ -133,8 +132,8 @@ unfolding acted
 gesture-leads all paddle g c = leads-in all paddle c (c .mode) g refl
 
 -- What an order writes, and which mode it leaves.
-pub order-writes : (all : List ℕ) (o : Order) (c : Core) → performed all o c .write ≡ Orders.orderWrites o (c .dimmer .level)
-unfolding performed storing Orders.orderWrites unwritten
+pub order-writes : (all : List ℕ) (o : Order) (c : Core) → performed all o c .write ≡ orderWrites o (c .dimmer .level)
+unfolding performed storing orderWrites unwritten
 order-writes all (order.Refused n) c = refl
 order-writes all (order.Open guess) c = refl
 order-writes all order.Close c = refl
@@ -148,8 +147,8 @@ order-writes all (order.Blink value) c = refl
 order-writes all order.Report c = refl
 order-writes all (order.Store i) c = refl
 
-pub order-leads : (all : List ℕ) (o : Order) (c : Core) → performed all o c .core .mode ≡ Orders.orderLeads o (c .mode)
-unfolding performed storing Orders.orderLeads unwritten entering setting stopping blinking
+pub order-leads : (all : List ℕ) (o : Order) (c : Core) → performed all o c .core .mode ≡ orderLeads o (c .mode)
+unfolding performed storing orderLeads unwritten entering setting stopping blinking
 order-leads all (order.Refused n) c = refl
 order-leads all (order.Open guess) c = refl
 order-leads all order.Close c = refl

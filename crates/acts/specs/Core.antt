@@ -11,8 +11,9 @@ use Rattle.vault.specs.declared.Mode.the-variants.{Normal, Setup}
 use Rattle.dimmer.specs.Dimmer.{optionsOf, setTo, stopped, ticked}
 use Rattle.dimmer.specs.Dimmer.{freshDimmer}
 use Rattle.dimmer.specs.declared.Dimmer.{Dimmer}
-use Rattle.lamp.specs.Lamp.{freshLamp, entered as flashed, nextLamp}
+use Rattle.lamp.specs.Lamp.{freshLamp, entered as flashed, nextLamp, signalSet}
 use Rattle.lamp.specs.declared.Lamp.{Lamp}
+use Rattle.lamp.specs.declared.Colour.{Colour}
 use Rattle.registers.specs.Places.{dimmingIn, savedIn}
 use Rattle.registers.specs.declared.write.Write.{Write}
 use Rattle.registers.specs.declared.write.Write.the-variants.{Nothing, Count, Save}
@@ -66,6 +67,10 @@ stopping c = withDimmer (stopped (c .dimmer)) c
 -- "After a mode change the output shows .. during 120 ticks"; "Mode blinks count from entry."
 unfoldable pub entering : Mode → Core → Core
 entering mode c = core mode (c .dimmer) (flashed (c .lamp)) (c .save)
+
+-- The lamp's 30-tick blink.
+unfoldable pub signalled : Colour → Core → Core
+signalled hue c = core (c .mode) (c .dimmer) (signalSet hue (c .lamp)) (c .save)
 
 -- "Entering Setup adds one to 0xFA."
 unfoldable pub opened : Core → Effect

@@ -1,3 +1,4 @@
 pub mod Core
 pub mod Orders
 pub mod Gestures
+pub mod Code

@@ -1,9 +1,10 @@
 // What a tick, a packet's order and a paddle's gesture do to the core of a switch. The registers are only read here; what is
 // to be written to them comes back.
 ghost use mathlib.Core.Path.{_≡_};
-ghost use Rattle.acts.specs.Core.{unwritten, startLevel, started, aged, toSave, saved, setting, stopping, entering, opened};
+ghost use Rattle.acts.specs.Core.{unwritten, startLevel, started, aged, toSave, saved, setting, stopping, entering, signalled, opened};
 use dimmer::Dimmer;
 use dimmer::Options;
+use lamp::Colour;
 use lamp::Lamp;
 use registers::places::Counter;
 use registers::write::Write;
@@ -96,6 +97,15 @@ impl Core {
     {
         self.dimmer = self.dimmer.stop();
         self
+    }
+
+    // The lamp's signal of a packet sent or received begins.
+    pub fn signalled(self, hue: Colour) -> Core
+        ensures { λ r. ⌜ r ≡ signalled hue self ⌝ }
+    {
+        let mut next = self;
+        next.lamp = self.lamp.blinked(hue);
+        next
     }
 
     // A mode change: the flash and the mode blinks begin.

@@ -11,8 +11,8 @@ use line::read::Line;
 use line::write;
 use line::write::FILL;
 use line::write::front;
+use switch::Handed;
 use switch::Live;
-use switch::Outcome;
 use switch::edges;
 use switch::receive;
 use switch::start;
@@ -208,7 +208,7 @@ fn tell(
 }
 
 // The event happens with the lent bytes filled.
-fn happen(event: Event, packet: &[u8], live: Live, all: &mut [u8; 256], out: &mut [u8]) -> Outcome
+fn happen(event: Event, packet: &[u8], live: Live, all: &mut [u8; 256], out: &mut [u8]) -> Handed
     ensures { λ r. ⌜ Responds (deedOf event (now (packet .entry))) live (now (all .entry)) (filled (now (out .entry))) (r .answer) (r .live) (now (all .exit)) (now (out .exit)) ⌝ }
 {
     fill(out);

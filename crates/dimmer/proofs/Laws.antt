@@ -1,11 +1,11 @@
 -- What callers use of the dimmer: its closed form after n ticks, when a fade ends, and that nothing leaves 0 to 200.
-use mathlib.Core.Path.{_≡_, refl, sym, ap, _∙_}
+use mathlib.Core.Path.{_≡_, refl, ap}
 use mathlib.Core.Bool.{Bool, true, false}
 use Prim.Native.Nat.{ℕ, suc, _+_, _*_, _-_, _/_, _%_, _<_, _≤_, max}
 use native.Mathlib.Nat.{le-div-iff-mul-le, div-lt-iff-lt-mul}
 use native.Mathlib.Omega.{arith}
 use lib.Dec.{ltb, eqb}
-use borrow.Author.Tests.{lt-ltb, le-ltb, eq-eqb, ne-eqb, eqb-true, eqb-false, ltb-true, ltb-false}
+use borrow.Author.Tests.{lt-ltb, le-ltb, eq-eqb, ne-eqb, ltb-true}
 use Rattle.words.specs.Words.{if_then_else_}
 use Rattle.words.proofs.Laws.{both, cases, two-ways, three-ways}
 use Rattle.timers.specs.Timers.{less, beats, metronome, metronomeBy, beatsBy}
@@ -17,7 +17,8 @@ use Rattle.dimmer.specs.declared.Options.{Options}
 use Rattle.dimmer.specs.declared.Motion.{Motion}
 use Rattle.dimmer.specs.declared.Motion.the-variants.{Idle, Fading, Blinking}
 use Rattle.dimmer.specs.declared.Dimmer.{Dimmer}
-use Rattle.dimmer.specs.Dimmer.{dimmer, ticksPerStep, wanted, freshDimmer, rateOf, allowed, remembered, headingTo, setTo, stoppedFrom, stopped, TargetWithin, Within, flipTicks, setBlinking, towards, stepped, flipped, faded, flickered, ticked, tickedFrom, distance, walked, gone, running, EndsAfter, flippedBy, tickedByFrom, tickedBy}
+use Rattle.dimmer.specs.Dimmer.{dimmer, ticksPerStep, wanted, freshDimmer, rateOf, allowed, remembered, headingTo, setTo, stoppedFrom, stopped, TargetWithin, Within, flipTicks, setBlinking, towards, stepped, flipped, faded, flickered, ticked, tickedFrom, distance, walked, gone, flippedBy, tickedByFrom, tickedBy}
+use Rattle.dimmer.specs.Code.{running, EndsAfter}
 
 -- A dimmer after no tick is as it was.
 walked-none : (level target : Step) → walked 0 level target ≡ level

@@ -1,8 +1,7 @@
 -- Levels and fades, as document 01 has them under that heading.
-use mathlib.Core.Path.{_≡_}
-use mathlib.Core.Bool.{Bool, true, false}
+use mathlib.Core.Bool.{Bool}
 use mathlib.Core.List.{List, [], _∷_}
-use Prim.Native.Nat.{ℕ, _+_, _-_, _*_, _/_, _%_, _≤_, _<_, max}
+use Prim.Native.Nat.{ℕ, _+_, _-_, _*_, _/_, _%_, _≤_, max}
 use lib.Dec.{ltb, eqb}
 use lib.ListN.{getD}
 use Rattle.words.specs.Words.{if_then_else_}
@@ -148,13 +147,3 @@ tickedByFrom n level last (Blinking period left) =
 
 unfoldable pub tickedBy : ℕ → Dimmer → Dimmer
 tickedBy n d = tickedByFrom n (d .level) (d .last) (d .motion)
-
--- "Unless replaced it ends after exactly ticks per step times distance": what runs before the given tick rests at its target from then on.
-unfoldable pub running : Motion → Bool
-running Idle = false
-running (Fading target period left) = true
-running (Blinking period left) = true
-
-pub record EndsAfter (total : ℕ) (d : Dimmer) (target : Step) : Type 0 where
-  pub runs : (n : ℕ) → n < total → running (tickedBy n d .motion) ≡ true
-  pub rests : (n : ℕ) → total ≤ n → (tickedBy n d .motion ≡ Idle) × (tickedBy n d .level ≡ target)

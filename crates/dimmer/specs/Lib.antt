@@ -1,1 +1,2 @@
 pub mod Dimmer
+pub mod Code

@@ -28,19 +28,20 @@ use Rattle.paddle.specs.declared.Paddle.{Paddle}
 use Rattle.acts.specs.Core.{core}
 use Rattle.acts.specs.declared.Core.{Core}
 use Rattle.registers.specs.Places.{size}
-use Rattle.switch.specs.Switch.{Deed, Plain, held}
+use Rattle.switch.specs.Switch.{Deed, Plain, held, liveIn}
 use Rattle.switch.specs.Respond.{Responds, Starts, noAnswer, nobody, startAnswer, startedFrom, startNext, whole}
 use Rattle.switch.specs.Code.{lived}
 use Rattle.switch.specs.declared.Live.{Live}
-use Rattle.switch.specs.declared.Answer.{Answer as SwitchAnswer}
-use Rattle.switch.specs.declared.Outcome.{Outcome}
+use Rattle.switch.specs.declared.Answer.{Answer}
+use Rattle.switch.specs.declared.Handed.{Handed}
 use Rattle.host.specs.Mirror.{truth, flagNumber, modeOf, modeNumber, colourFrom, colourNumber, motionOf, kindNumber}
 use Rattle.host.specs.Mirror.{hueIndex, leftIndex, modeIndex, periodIndex, targetIndex}
-use Rattle.host.specs.Mirror.{paddleFrom, paddlesOf, dimmerOf, lampOf, coreOf, passwordOf, liveFrom, inNumbers, switchAnswer}
+use Rattle.host.specs.Mirror.{paddleFrom, paddlesOf, dimmerOf, lampOf, coreOf, passwordOf, liveFrom, inFigures, switchAnswer}
 use Rattle.host.specs.Keeping.{keptAt, keptFlag, keptMode, keptHue, keptKind, keptCourse, keptTarget, keptTimes, keptAllTimes, keptTimers, keptRun, keptCounters}
 use Rattle.host.specs.Keeping.{keptPaddle, keptPaddles, keptPassword, keptDimmer, keptCore, keptNumbers}
-use Rattle.host.specs.Host.{inside, Begins, KeepsWhatItRead, MirrorsBack, SpeaksOneWay, RefusedStartLeavesAll, Speaks, StartForgets, Tells}
-use Rattle.host.specs.declared.Answer.{Answer}
+use Rattle.host.specs.Host.{Begins, KeepsWhatItRead, MirrorsBack, SpeaksOneWay, RefusedStartLeavesAll, Speaks, StartForgets}
+use Rattle.host.specs.declared.Figures.{Figures}
+use Rattle.host.specs.Code.{Tells}
 
 -- Each type in numbers and back.
 bit-back : (flag : Bool) → truth (flagNumber flag) ≡ flag
@@ -167,8 +168,8 @@ live-back :
 live-back counters numbers l h k two =
     rw (spread-all 11 counters h, spread-all 14 numbers k) (back-of (l .password) (l .core) (l .paddles) counters numbers two)
 
-answer-back : (a : SwitchAnswer) → switchAnswer (inNumbers a) ≡ a
-unfolding switchAnswer inNumbers
+answer-back : (a : Answer) → switchAnswer (inFigures a) ≡ a
+unfolding switchAnswer inFigures
 answer-back a = rw (colour-back (a .colour), mode-back (a .mode))
 
 -- What is kept leaves as many counters and numbers as there were.
@@ -268,7 +269,7 @@ keeps-what-it-read =
 
 -- An event in numbers is the switch's own.
 pub speaks :
-    (deed : Deed) (counters numbers all out : List ℕ) (live : Live) (o : Outcome) (r : Answer) (counters′ numbers′ all′ out′ : List ℕ)
+    (deed : Deed) (counters numbers all out : List ℕ) (live : Live) (o : Handed) (r : Figures) (counters′ numbers′ all′ out′ : List ℕ)
     → live ≡ liveFrom counters numbers
     → Responds deed live all out (o .answer) (o .live) all′ out′
     → Tells o counters numbers r counters′ numbers′
@@ -276,9 +277,9 @@ pub speaks :
 speaks deed counters numbers all out live o r counters′ numbers′ all′ out′ read responds tells =
     let h = rw read at responds in
     record {
-      answered = tells .answered ∙ ap inNumbers (h .answered);
-      counted = tells .counted ∙ ap (λ (s : Switch Plain). keptCounters (inside s) counters) (h .next);
-      numbered = tells .numbered ∙ ap (λ (s : Switch Plain). keptNumbers (inside s) numbers) (h .next);
+      answered = tells .answered ∙ ap inFigures (h .answered);
+      counted = tells .counted ∙ ap (λ (s : Switch Plain). keptCounters (liveIn s) counters) (h .next);
+      numbered = tells .numbered ∙ ap (λ (s : Switch Plain). keptNumbers (liveIn s) numbers) (h .next);
       registers = ap (λ (s : Switch Plain). s .plain .registers) (h .next);
       bytes = h .bytes;
     }
@@ -292,7 +293,7 @@ unless-whole image x y other = rw (ne-eqb (length image) size other)
 
 -- The start in numbers by its two ways: accepted, over cleared arrays, and refused.
 pub begins :
-    (image counters numbers all : List ℕ) (o : Outcome) (r : Answer) (counters′ numbers′ all′ : List ℕ)
+    (image counters numbers all : List ℕ) (o : Handed) (r : Figures) (counters′ numbers′ all′ : List ℕ)
     → length image ≡ size
     → Starts image all (o .answer) (o .live) all′
     → Tells o (replicate 11 0) (replicate 14 0) r counters′ numbers′
@@ -301,35 +302,35 @@ unfolding startNext
 begins image counters numbers all o r counters′ numbers′ all′ long h tells =
     let same : held (o .live) all′ ≡ startedFrom image = h .next ∙ rw (eq-eqb (length image) size long) in
     record {
-      answered = tells .answered ∙ ap inNumbers (h .answered);
+      answered = tells .answered ∙ ap inFigures (h .answered);
       counted =
-          tells .counted ∙ ap (λ (s : Switch Plain). keptCounters (inside s) (replicate 11 0)) same ∙ sym (if-whole image _ counters long);
+          tells .counted ∙ ap (λ (s : Switch Plain). keptCounters (liveIn s) (replicate 11 0)) same ∙ sym (if-whole image _ counters long);
       numbered =
-          tells .numbered ∙ ap (λ (s : Switch Plain). keptNumbers (inside s) (replicate 14 0)) same ∙ sym (if-whole image _ numbers long);
+          tells .numbered ∙ ap (λ (s : Switch Plain). keptNumbers (liveIn s) (replicate 14 0)) same ∙ sym (if-whole image _ numbers long);
       registers = ap (λ (s : Switch Plain). s .plain .registers) same ∙ sym (if-whole image _ all long);
     }
 
 pub begins-none :
-    (image counters numbers all : List ℕ) (answer : SwitchAnswer) (live : Live) (r : Answer) (all′ : List ℕ)
+    (image counters numbers all : List ℕ) (answer : Answer) (live : Live) (r : Figures) (all′ : List ℕ)
     → (length image ≡ size → ⊥)
     → Starts image all answer live all′
-    → r ≡ inNumbers answer
+    → r ≡ inFigures answer
     → Begins image counters numbers all r counters numbers all′
 unfolding startNext
 begins-none image counters numbers all answer live r all′ other h told =
     let same : held live all′ ≡ held nobody all = h .next ∙ rw (ne-eqb (length image) size other) in
     record {
-      answered = told ∙ ap inNumbers (h .answered);
+      answered = told ∙ ap inFigures (h .answered);
       counted = sym (unless-whole image _ counters other);
       numbered = sym (unless-whole image _ numbers other);
       registers = ap (λ (s : Switch Plain). s .plain .registers) same ∙ sym (unless-whole image _ all other);
     }
 
 pub refused-start-leaves-all : RefusedStartLeavesAll
-unfolding startAnswer inNumbers
+unfolding startAnswer inFigures
 refused-start-leaves-all image counters numbers all r c n a other b =
-    let told : r ≡ inNumbers noAnswer = b .answered ∙ rw (ne-eqb (length image) size other) in (
-      ap (λ (x : Answer). x .number) told,
+    let told : r ≡ inFigures (noAnswer 1) = b .answered ∙ rw (ne-eqb (length image) size other) in (
+      ap (λ (x : Figures). x .number) told,
       (
         b .counted ∙ unless-whole image _ counters other,
         (b .numbered ∙ unless-whole image _ numbers other, b .registers ∙ unless-whole image _ all other),

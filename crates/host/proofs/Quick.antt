@@ -20,31 +20,33 @@ use Rattle.dimmer.specs.declared.Dimmer.{Dimmer}
 use Rattle.dimmer.specs.declared.Motion.{Motion}
 use Rattle.dimmer.specs.declared.Motion.the-variants.{Idle, Fading, Blinking}
 use Rattle.lamp.specs.Lamp.{nextLamp}
-use Rattle.paddle.specs.Paddle.{closing, completed, down, ends, freshPaddle, gesture, gestureUp, nextPaddle, completesNothing, pressed, released, turn}
+use Rattle.paddle.specs.Paddle.{closing, completed, down, ends, freshPaddle, gesture, gestureUp, nextPaddle, pressed, released}
 use Rattle.paddle.specs.Paddle.{tapsKept}
 use Rattle.paddle.specs.declared.Contact.{Contact}
 use Rattle.paddle.specs.declared.Gesture.the-variants.{Nothing, Taps, Hold}
 use Rattle.paddle.specs.declared.Paddle.{Paddle}
 use Rattle.paddle.specs.declared.Turn.{Turn}
+use Rattle.paddle.specs.Code.{turn, completesNothing}
 use Rattle.acts.specs.Core.{aged, core}
 use Rattle.acts.specs.declared.Core.{Core}
 use Rattle.post.specs.Post.{placed}
-use Rattle.switch.specs.Switch.{Deed, Plain, plain, press, release, tick, receive, tally, answerWith}
+use Rattle.switch.specs.Switch.{Deed, Plain, plain, press, release, tick, receive, tally, answerWith, liveIn}
 use Rattle.switch.specs.Switch.{answerOf as switchAnswerOf}
 use Rattle.switch.specs.Events.{gestureAt, kindOf, pressedAt, releasedAt}
 use Rattle.switch.specs.Events.{paddleOf as paddleNumber}
 use Rattle.switch.specs.Code.{lived, passedCore, quiet, recognised, Handles}
-use Rattle.switch.specs.declared.Answer.{Answer as SwitchAnswer}
+use Rattle.switch.specs.declared.Answer.{Answer}
 use Rattle.switch.specs.declared.Sent.{Sent}
 use Rattle.switch.specs.declared.paddles.Recognised.{Recognised}
 use Rattle.switch.specs.declared.receive.Handled.{Handled}
 use Rattle.switch.proofs.Quick.{plainly, quick-press, quick-release, quick-tick}
-use Rattle.host.specs.Mirror.{kindIndex, lastIndex, levelIndex, saveIndex, targetIndex, motionOf, paddleFrom, paddlesOf, dimmerOf, lampOf, coreOf, passwordOf, liveFrom, inNumbers}
+use Rattle.host.specs.Mirror.{kindIndex, lastIndex, levelIndex, saveIndex, targetIndex, motionOf, paddleFrom, paddlesOf, dimmerOf, lampOf, coreOf, passwordOf, liveFrom, inFigures}
 use Rattle.host.specs.Keeping.{keptAt, keptFlag, keptMode, keptHue, keptKind, keptCourse, keptTarget, keptTimers, keptRun, keptTimes, keptAllTimes, keptCounters}
-use Rattle.host.specs.Keeping.{keptPaddle, keptPaddles, keptPassword, keptDimmer, keptCore, keptNumbers, keptStep}
-use Rattle.host.specs.Host.{inside, responded, Speaks}
-use Rattle.host.specs.declared.Answer.{Answer}
+use Rattle.host.specs.Keeping.{keptPaddle, keptPaddles, keptPassword, keptDimmer, keptCore, keptNumbers}
+use Rattle.host.specs.Host.{responded, Speaks}
+use Rattle.host.specs.declared.Figures.{Figures}
 use Rattle.host.proofs.Laws.{all-times-same, core-same, dimmer-same, hue-same, mode-same, paddle-same, paddles-same, password-same, run-same, times-same}
+use Rattle.host.specs.Code.{keptStep}
 
 -- What is set at one place leaves the others.
 elsewhere : (l : List ℕ) (i v place : ℕ) → (place ≡ i → ⊥) → getD (set l i v) place 0 ≡ getD l place 0
@@ -265,9 +267,9 @@ passed-numbers counters numbers still =
 
 -- A quick way in code speaks as the switch responds.
 plainly-speaks :
-    (deed : Deed) (counters numbers all out : List ℕ) (c : Core) (ps : List Paddle) (r : Answer) (counters′ numbers′ : List ℕ)
+    (deed : Deed) (counters numbers all out : List ℕ) (c : Core) (ps : List Paddle) (r : Figures) (counters′ numbers′ : List ℕ)
     → responded deed counters numbers all (length out) ≡ plainly (plain all c ps) (passwordOf numbers)
-    → r ≡ inNumbers (answerWith 0 (tally []) all c)
+    → r ≡ inFigures (answerWith 0 (tally []) all c)
     → counters′ ≡ keptCounters (lived (passwordOf numbers) c ps) counters
     → numbers′ ≡ keptNumbers (lived (passwordOf numbers) c ps) numbers
     → Speaks deed counters numbers all out r counters′ numbers′ all out
@@ -281,7 +283,7 @@ Plainly deed counters numbers all room i p =
     responded deed counters numbers all room ≡ plainly (plain all (coreOf counters numbers) (set (paddlesOf counters numbers) i p)) (passwordOf numbers)
 
 pub edge-speaks :
-    (deed : Deed) (counters numbers all out : List ℕ) (i : ℕ) (p : Paddle) (c : Core) (sent : Sent) (answer : SwitchAnswer) (r : Answer) (counters′ numbers′ : List ℕ)
+    (deed : Deed) (counters numbers all out : List ℕ) (i : ℕ) (p : Paddle) (c : Core) (sent : Sent) (answer : Answer) (r : Figures) (counters′ numbers′ : List ℕ)
     → i < 2
     → Plainly deed counters numbers all (length out) i p
     → c ≡ coreOf counters numbers
@@ -289,7 +291,7 @@ pub edge-speaks :
     → answer ≡ answerWith 0 sent all c
     → counters′ ≡ keptTimes i p counters
     → numbers′ ≡ keptPaddle i p numbers
-    → r ≡ inNumbers answer
+    → r ≡ inFigures answer
     → Speaks deed counters numbers all out r counters′ numbers′ all out
 edge-speaks deed counters numbers all out i p c sent answer r counters′ numbers′ small e core completesNothing show x y told =
     plainly-speaks deed counters numbers all out (coreOf counters numbers) (set (paddlesOf counters numbers) i p) r counters′ numbers′ e
@@ -317,8 +319,8 @@ module _ (contact : ℕ) (counters numbers all : List ℕ) (before : Paddle) (ki
 
 -- A tick that completes no gesture and saves nothing.
 pub tick-speaks :
-    (counters numbers all out : List ℕ) (before : List Paddle) (now : Recognised) (c old : Core) (save : ℕ) (sent : Sent) (answer : SwitchAnswer)
-    (counters₁ counters′ numbers′ : List ℕ) (r : Answer)
+    (counters numbers all out : List ℕ) (before : List Paddle) (now : Recognised) (c old : Core) (save : ℕ) (sent : Sent) (answer : Answer)
+    (counters₁ counters′ numbers′ : List ℕ) (r : Figures)
     → let c′ = core (old .mode) (old .dimmer) (old .lamp) save in
     48 ≤ length out
     → (getD counters saveIndex 0 ≡ 0 → ⊥)
@@ -333,7 +335,7 @@ pub tick-speaks :
     → counters₁ ≡ keptRun c′ counters
     → counters′ ≡ keptAllTimes (now .paddles) counters₁
     → numbers′ ≡ keptStep (c′ .dimmer) numbers
-    → r ≡ inNumbers answer
+    → r ≡ inFigures answer
     → Speaks tick counters numbers all out r counters′ numbers′ all out
 unfolding liveFrom coreOf passedCore aged keptCounters
 tick-speaks counters numbers all out before now c old save sent answer counters₁ counters′ numbers′ r room unsaved read recognise still whole age saved completesNothing show run times stepped told =
@@ -348,23 +350,23 @@ tick-speaks counters numbers all out before now c old save sent answer counters�
 
 -- A packet: the paddles are left alone.
 pub receive-speaks :
-    (bytes counters numbers all out : List ℕ) (c : Core) (w : Password) (h : Handled) (counters′ numbers₁ numbers′ all′ out′ : List ℕ) (r : Answer)
+    (bytes counters numbers all out : List ℕ) (c : Core) (w : Password) (h : Handled) (counters′ numbers₁ numbers′ all′ out′ : List ℕ) (r : Figures)
     → c ≡ coreOf counters numbers
     → w ≡ passwordOf numbers
     → Handles bytes w c all out h all′ out′
     → counters′ ≡ keptRun (h .core) counters
     → numbers₁ ≡ keptPassword (h .password) numbers
     → numbers′ ≡ keptCore (h .core) numbers₁
-    → r ≡ inNumbers (h .answer)
+    → r ≡ inFigures (h .answer)
     → Speaks (receive bytes) counters numbers all out r counters′ numbers′ all′ out′
 unfolding liveFrom
 receive-speaks bytes counters numbers all out c w h counters′ numbers₁ numbers′ all′ out′ r core password handles run secret rest told =
     let ps = paddlesOf counters numbers in
     let leads = rw (core, password) at handles in
     record {
-      answered = told ∙ ap inNumbers (leads .answered ps);
-      counted = run ∙ (sym (alone-counters (h .core) (h .password) counters numbers) ∙ ap (λ (s : Switch Plain). keptCounters (inside s) counters) (leads .next ps));
-      numbered = rest ∙ (rw secret (sym (alone-numbers (h .core) (h .password) counters numbers)) ∙ ap (λ (s : Switch Plain). keptNumbers (inside s) numbers) (leads .next ps));
+      answered = told ∙ ap inFigures (leads .answered ps);
+      counted = run ∙ (sym (alone-counters (h .core) (h .password) counters numbers) ∙ ap (λ (s : Switch Plain). keptCounters (liveIn s) counters) (leads .next ps));
+      numbered = rest ∙ (rw secret (sym (alone-numbers (h .core) (h .password) counters numbers)) ∙ ap (λ (s : Switch Plain). keptNumbers (liveIn s) numbers) (leads .next ps));
       registers = ap (λ (s : Switch Plain). s .plain .registers) (leads .next ps);
       bytes = leads .bytes ps;
     }

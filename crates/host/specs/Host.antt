@@ -4,52 +4,41 @@ use mathlib.Core.Path.{_≡_}
 use Prim.Native.Nat.{ℕ}
 use lib.ListN.{length, replicate}
 use Rattle.words.specs.Words.{if_then_else_}
-use Rattle.vault.specs.Job.{Answered, Switch}
+use Rattle.vault.specs.Job.{Answered}
 use Rattle.registers.specs.Places.{size}
 use Rattle.post.specs.Post.{placed}
-use Rattle.switch.specs.Switch.{Deed, Plain, Shown, event, held}
+use Rattle.switch.specs.Switch.{Deed, Plain, Shown, event, held, liveIn}
 use Rattle.switch.specs.Respond.{respond, startAnswer, startedFrom, whole}
 use Rattle.switch.specs.declared.Live.{Live}
-use Rattle.switch.specs.declared.Answer.{Answer as SwitchAnswer}
-use Rattle.switch.specs.declared.Outcome.{Outcome}
-use Rattle.host.specs.Mirror.{inNumbers, liveFrom, switchAnswer}
+use Rattle.switch.specs.declared.Answer.{Answer}
+use Rattle.host.specs.Mirror.{inFigures, liveFrom, switchAnswer}
 use Rattle.host.specs.Keeping.{keptCounters, keptNumbers}
-use Rattle.host.specs.declared.Answer.{Answer}
-
--- All that a switch holds besides its registers.
-abbrev pub inside : Switch Plain → Live
-inside s = record { password = s .password; core = s .plain .core; paddles = s .plain .paddles }
+use Rattle.host.specs.declared.Figures.{Figures}
 
 -- What the switch that these numbers stand for answers to an event with so much room.
 abbrev pub responded : Deed → List ℕ → List ℕ → List ℕ → ℕ → Answered Plain Shown
 responded deed counters numbers all room = respond (held (liveFrom counters numbers) all) (event room deed)
 
 -- What every event function promises: the answer, every counter, number and register, and every byte of the buffer are the switch's.
-pub record Speaks (deed : Deed) (counters numbers all out : List ℕ) (answer : Answer) (counters′ numbers′ all′ out′ : List ℕ) : Type 0 where
-  pub answered : answer ≡ inNumbers (responded deed counters numbers all (length out) .shown .answer)
-  pub counted : counters′ ≡ keptCounters (inside (responded deed counters numbers all (length out) .next)) counters
-  pub numbered : numbers′ ≡ keptNumbers (inside (responded deed counters numbers all (length out) .next)) numbers
+pub record Speaks (deed : Deed) (counters numbers all out : List ℕ) (answer : Figures) (counters′ numbers′ all′ out′ : List ℕ) : Type 0 where
+  pub answered : answer ≡ inFigures (responded deed counters numbers all (length out) .shown .answer)
+  pub counted : counters′ ≡ keptCounters (liveIn (responded deed counters numbers all (length out) .next)) counters
+  pub numbered : numbers′ ≡ keptNumbers (liveIn (responded deed counters numbers all (length out) .next)) numbers
   pub registers : all′ ≡ responded deed counters numbers all (length out) .next .plain .registers
   pub bytes : out′ ≡ placed (responded deed counters numbers all (length out) .shown .sent) out
 
 -- What the start promises: accepted, the switch of the image is written over cleared arrays; refused, every array is as it was.
-pub record Begins (image counters numbers all : List ℕ) (answer : Answer) (counters′ numbers′ all′ : List ℕ) : Type 0 where
-  pub answered : answer ≡ inNumbers (startAnswer image)
-  pub counted : counters′ ≡ if whole image then keptCounters (inside (startedFrom image)) (replicate 11 0) else counters
-  pub numbered : numbers′ ≡ if whole image then keptNumbers (inside (startedFrom image)) (replicate 14 0) else numbers
+pub record Begins (image counters numbers all : List ℕ) (answer : Figures) (counters′ numbers′ all′ : List ℕ) : Type 0 where
+  pub answered : answer ≡ inFigures (startAnswer image)
+  pub counted : counters′ ≡ if whole image then keptCounters (liveIn (startedFrom image)) (replicate 11 0) else counters
+  pub numbered : numbers′ ≡ if whole image then keptNumbers (liveIn (startedFrom image)) (replicate 14 0) else numbers
   pub registers : all′ ≡ if whole image then startedFrom image .plain .registers else all
-
--- An outcome of the switch, kept and told.
-pub record Tells (o : Outcome) (counters numbers : List ℕ) (answer : Answer) (counters′ numbers′ : List ℕ) : Type 0 where
-  pub answered : answer ≡ inNumbers (o .answer)
-  pub counted : counters′ ≡ keptCounters (o .live) counters
-  pub numbered : numbers′ ≡ keptNumbers (o .live) numbers
 
 -- Into plain numbers and back is the identity, whatever stood there: on every switch of two paddles, and on every answer.
 pub record MirrorsBack : Type 0 where
   pub live : (counters numbers : List ℕ) (l : Live) → length counters ≡ 11 → length numbers ≡ 14 → length (l .paddles) ≡ 2
       → liveFrom (keptCounters l counters) (keptNumbers l numbers) ≡ l
-  pub answer : (a : SwitchAnswer) → switchAnswer (inNumbers a) ≡ a
+  pub answer : (a : Answer) → switchAnswer (inFigures a) ≡ a
 
 -- Keeping what was read leaves every number as it is.
 pub record KeepsWhatItRead : Type 0 where
@@ -58,17 +47,17 @@ pub record KeepsWhatItRead : Type 0 where
 
 -- No two outcomes: what meets the contract of an event, or of the start, is one.
 pub record SpeaksOneWay : Type 0 where
-  pub event : (deed : Deed) (counters numbers all out : List ℕ) (r s : Answer) (c c′ n n′ a a′ o o′ : List ℕ)
+  pub event : (deed : Deed) (counters numbers all out : List ℕ) (r s : Figures) (c c′ n n′ a a′ o o′ : List ℕ)
       → Speaks deed counters numbers all out r c n a o → Speaks deed counters numbers all out s c′ n′ a′ o′
       → (r ≡ s) × ((c ≡ c′) × ((n ≡ n′) × ((a ≡ a′) × (o ≡ o′))))
-  pub start : (image counters numbers all : List ℕ) (r s : Answer) (c c′ n n′ a a′ : List ℕ)
+  pub start : (image counters numbers all : List ℕ) (r s : Figures) (c c′ n n′ a a′ : List ℕ)
       → Begins image counters numbers all r c n a → Begins image counters numbers all s c′ n′ a′
       → (r ≡ s) × ((c ≡ c′) × ((n ≡ n′) × (a ≡ a′)))
 
 -- A refused start is answered 1 and leaves every array exactly as it was.
 abbrev pub RefusedStartLeavesAll : Type 0
 RefusedStartLeavesAll =
-    (image counters numbers all : List ℕ) (r : Answer) (c n a : List ℕ) → (length image ≡ size → ⊥)
+    (image counters numbers all : List ℕ) (r : Figures) (c n a : List ℕ) → (length image ≡ size → ⊥)
     → Begins image counters numbers all r c n a
     → (r .number ≡ 1) × ((c ≡ counters) × ((n ≡ numbers) × (a ≡ all)))
 
@@ -76,6 +65,6 @@ RefusedStartLeavesAll =
 abbrev pub StartForgets : Type 0
 StartForgets =
     (image : List ℕ) → length image ≡ size
-    → (counters numbers all : List ℕ) (r : Answer) (c n a : List ℕ) → Begins image counters numbers all r c n a
-    → (counters′ numbers′ all′ : List ℕ) (s : Answer) (c′ n′ a′ : List ℕ) → Begins image counters′ numbers′ all′ s c′ n′ a′
+    → (counters numbers all : List ℕ) (r : Figures) (c n a : List ℕ) → Begins image counters numbers all r c n a
+    → (counters′ numbers′ all′ : List ℕ) (s : Figures) (c′ n′ a′ : List ℕ) → Begins image counters′ numbers′ all′ s c′ n′ a′
     → (r ≡ s) × ((c ≡ c′) × ((n ≡ n′) × (a ≡ a′)))

@@ -82,7 +82,3 @@ keptPaddles ps l = keptPaddle 1 (getD ps 1 freshPaddle) (keptPaddle 0 (getD ps 0
 
 unfoldable pub keptNumbers : Live → List ℕ → List ℕ
 keptNumbers live l = keptPaddles (live .paddles) (keptCore (live .core) (keptPassword (live .password) l))
-
--- What a tick that does nothing else makes of the numbers: where nothing runs they stay, else the level and the kind of motion are kept.
-unfoldable pub keptStep : Dimmer → List ℕ → List ℕ
-keptStep d l = if eqb (getD l kindIndex 0) 0 then l else keptKind (d .motion) (set l levelIndex (d .level .0))

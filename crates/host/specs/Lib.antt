@@ -1,3 +1,4 @@
 pub mod Mirror
 pub mod Keeping
 pub mod Host
+pub mod Code

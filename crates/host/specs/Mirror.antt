@@ -23,8 +23,8 @@ use Rattle.paddle.specs.declared.Paddle.{Paddle}
 use Rattle.acts.specs.Core.{core}
 use Rattle.acts.specs.declared.Core.{Core}
 use Rattle.switch.specs.declared.Live.{Live}
-use Rattle.switch.specs.declared.Answer.{Answer as SwitchAnswer}
-use Rattle.host.specs.declared.Answer.{Answer}
+use Rattle.switch.specs.declared.Answer.{Answer}
+use Rattle.host.specs.declared.Figures.{Figures}
 
 -- A bool is 0 or 1; any other number is true.
 unfoldable pub truth : ℕ → Bool
@@ -164,8 +164,8 @@ liveFrom counters numbers =
     }
 
 -- An answer, and back.
-unfoldable pub inNumbers : SwitchAnswer → Answer
-inNumbers a =
+unfoldable pub inFigures : Answer → Figures
+inFigures a =
     record {
       number = a .number;
       count = a .sent .count;
@@ -177,7 +177,7 @@ inNumbers a =
       mode = modeNumber (a .mode);
     }
 
-unfoldable pub switchAnswer : Answer → SwitchAnswer
+unfoldable pub switchAnswer : Figures → Answer
 switchAnswer a =
     record {
       number = a .number;

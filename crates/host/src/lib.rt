@@ -22,8 +22,8 @@ use keep::keep_run;
 use keep::keep_step;
 use keep::keep_times;
 use mirror::SAVE;
-use mirror::answer_of;
 use mirror::core_of;
+use mirror::figures_of;
 use mirror::live_of;
 use mirror::paddle_of;
 use mirror::paddles_of;
@@ -41,7 +41,7 @@ mod whole;
 
 // `count` packets were sent, of `first` and `second` bytes.
 #[repr(C)]
-pub struct Answer {
+pub struct Figures {
     pub number: u8,
     pub count: u8,
     pub first: u8,
@@ -60,12 +60,12 @@ pub extern "C" fn melszondru_start(
     counters: &mut [u16; 11],
     numbers: &mut [u8; 14],
     all: &mut [u8; 256],
-) -> Answer
+) -> Figures
     ensures { λ r. ⌜ Begins (now (image .entry)) (now (counters .entry)) (now (numbers .entry)) (now (all .entry)) r (now (counters .exit)) (now (numbers .exit)) (now (all .exit)) ⌝ }
 {
     let outcome = switch::start::start(image, all);
     if image.len() != SIZE {
-        return answer_of(outcome.answer);
+        return figures_of(outcome.answer);
     }
     *counters = [0; 11];
     *numbers = [0; 14];
@@ -81,7 +81,7 @@ pub extern "C" fn melszondru_press(
     all: &mut [u8; 256],
     contact: u8,
     out: &mut [u8],
-) -> Answer
+) -> Figures
     ensures { λ r. ⌜ Speaks (press contact) (now (counters .entry)) (now (numbers .entry)) (now (all .entry)) (now (out .entry)) r (now (counters .exit)) (now (numbers .exit)) (now (all .exit)) (now (out .exit)) ⌝ }
 {
     if out.len() < ROOM {
@@ -98,7 +98,7 @@ pub extern "C" fn melszondru_press(
     let shown = switch::show(core, all, 0, Sent::none());
     keep_times(i, paddle, counters);
     keep_paddle(i, paddle, numbers);
-    answer_of(shown)
+    figures_of(shown)
 }
 
 // So does a release that completes no gesture.
@@ -109,7 +109,7 @@ pub extern "C" fn melszondru_release(
     all: &mut [u8; 256],
     contact: u8,
     out: &mut [u8],
-) -> Answer
+) -> Figures
     ensures { λ r. ⌜ Speaks (release contact) (now (counters .entry)) (now (numbers .entry)) (now (all .entry)) (now (out .entry)) r (now (counters .exit)) (now (numbers .exit)) (now (all .exit)) (now (out .exit)) ⌝ }
 {
     if out.len() < ROOM {
@@ -132,7 +132,7 @@ pub extern "C" fn melszondru_release(
     let shown = switch::show(core, all, 0, Sent::none());
     keep_times(i, paddle, counters);
     keep_paddle(i, paddle, numbers);
-    answer_of(shown)
+    figures_of(shown)
 }
 
 // A tick that completes no gesture and saves nothing runs its counters, and a motion.
@@ -142,7 +142,7 @@ pub extern "C" fn melszondru_tick(
     numbers: &mut [u8; 14],
     all: &mut [u8; 256],
     out: &mut [u8],
-) -> Answer
+) -> Figures
     ensures { λ r. ⌜ Speaks tick (now (counters .entry)) (now (numbers .entry)) (now (all .entry)) (now (out .entry)) r (now (counters .exit)) (now (numbers .exit)) (now (all .exit)) (now (out .exit)) ⌝ }
 {
     if out.len() < ROOM {
@@ -167,7 +167,7 @@ pub extern "C" fn melszondru_tick(
     keep_run(core, counters);
     keep_all_times(paddles, counters);
     keep_step(core.dimmer, numbers);
-    answer_of(shown)
+    figures_of(shown)
 }
 
 // A packet leaves the paddles alone.
@@ -178,7 +178,7 @@ pub extern "C" fn melszondru_receive(
     all: &mut [u8; 256],
     packet: &[u8],
     out: &mut [u8],
-) -> Answer
+) -> Figures
     ensures { λ r. ⌜ Speaks (receive (now (packet .entry))) (now (counters .entry)) (now (numbers .entry)) (now (all .entry)) (now (out .entry)) r (now (counters .exit)) (now (numbers .exit)) (now (all .exit)) (now (out .exit)) ⌝ }
 {
     let core = core_of(counters, numbers);
@@ -189,7 +189,7 @@ pub extern "C" fn melszondru_receive(
     keep_run(next, counters);
     keep_password(handled.password, numbers);
     keep_core(next, numbers);
-    answer_of(answer)
+    figures_of(answer)
 }
 
 #[no_mangle]
@@ -198,7 +198,7 @@ pub extern "C" fn melszondru_restart(
     numbers: &mut [u8; 14],
     all: &mut [u8; 256],
     out: &mut [u8],
-) -> Answer
+) -> Figures
     ensures { λ r. ⌜ Speaks restart (now (counters .entry)) (now (numbers .entry)) (now (all .entry)) (now (out .entry)) r (now (counters .exit)) (now (numbers .exit)) (now (all .exit)) (now (out .exit)) ⌝ }
 {
     let outcome = switch::start::restart(live_of(counters, numbers), all, out);

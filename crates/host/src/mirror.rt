@@ -3,8 +3,8 @@
 ghost use mathlib.Core.Path.{_≡_};
 ghost use Prim.Native.Nat.{_<_};
 ghost use Rattle.host.specs.Mirror.{truth, flagNumber, modeOf, modeNumber, colourFrom, colourNumber, motionOf, kindNumber};
-ghost use Rattle.host.specs.Mirror.{paddleFrom, paddlesOf, dimmerOf, lampOf, coreOf, passwordOf, liveFrom, inNumbers};
-use crate::Answer;
+ghost use Rattle.host.specs.Mirror.{paddleFrom, paddlesOf, dimmerOf, lampOf, coreOf, passwordOf, liveFrom, inFigures};
+use crate::Figures;
 use acts::Core;
 use dimmer::Dimmer;
 use dimmer::Motion;
@@ -215,15 +215,15 @@ pub(crate) fn kind_number(motion: Motion) -> u8
     }
 }
 
-pub(crate) fn answer_of(answer: switch::Answer) -> Answer
-    ensures { λ r. ⌜ r ≡ inNumbers answer ⌝ }
+pub(crate) fn figures_of(answer: switch::Answer) -> Figures
+    ensures { λ r. ⌜ r ≡ inFigures answer ⌝ }
 {
     let sent = answer.sent;
     let level = answer.level;
     let output = answer.output;
     let colour = answer.colour;
     let mode = answer.mode;
-    Answer {
+    Figures {
         number: answer.number,
         count: sent.count,
         first: sent.first,

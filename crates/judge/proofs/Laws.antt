@@ -21,9 +21,10 @@ use Rattle.judge.specs.declared.Verb.{Verb}
 use Rattle.judge.specs.declared.Verb.the-variants.{Open, Close, Get, Set, Activate, Deactivate, Goto, FadeStart, FadeStop, Blink, Report, Store, Unlisted}
 use Rattle.judge.specs.declared.Order.{Order}
 use Rattle.judge.specs.declared.Order.the-variants as order
-use Rattle.judge.specs.Judge.{heard, targetOf, reached, verbOf, listed, argument, optional, values, suits, permitted, componentOf, ordered, judged, numberOfOrder, arguments, registersInRange}
-use Rattle.judge.specs.Promises.{Unheard, Takes, Range, Suits, Permitted, Reached, Listed, Suited, ByLink, Refusal, wrong-network, not-ours, not-listed, wrong-arguments, not-permitted, Level, Judged, JudgedExactly, NumberExactly, OnlyNineTo13, ChecksInOrder}
+use Rattle.judge.specs.Judge.{heard, targetOf, reached, verbOf, listed, argument, optional, values, suits, permitted, componentOf, ordered, judged, arguments, registersInRange}
+use Rattle.judge.specs.Promises.{Unheard, Takes, Range, Suits, Permitted, Reached, Listed, Suited, ByLink, Refusal, wrong-network, not-ours, not-listed, wrong-arguments, not-permitted, Level}
 use Rattle.judge.proofs.Checks.{heard-says, Aimed, aimed, reached-says, Number, numbered, listed-says, suits-says, permitted-says, component-says, component-is}
+use Rattle.judge.specs.Code.{numberOfOrder, Judged, JudgedExactly, NumberExactly, OnlyNineTo13, ChecksInOrder}
 
 -- A test is true exactly where what it denies does not hold.
 yes : {P : Type 0} (b : Bool) → ((b ≡ false) ↔ P) → (P → ⊥) → b ≡ true

@@ -189,18 +189,3 @@ judged all mode header message =
     else if not (suits verb message) then order.Refused 12
     else if not (permitted verb target mode (header .source) (optionsOf (dimmingIn all) .capable)) then order.Refused 13
     else ordered verb target message
-
--- The number of an order: that of the refusal, or 0.
-abbrev pub numberOfOrder : Order → ℕ
-numberOfOrder (order.Refused n) = n
-numberOfOrder (order.Open guess) = 0
-numberOfOrder order.Close = 0
-numberOfOrder (order.Get first count) = 0
-numberOfOrder (order.Set first) = 0
-numberOfOrder (order.Activate i) = 0
-numberOfOrder (order.Deactivate i) = 0
-numberOfOrder (order.Goto level rate) = 0
-numberOfOrder order.Stop = 0
-numberOfOrder (order.Blink value) = 0
-numberOfOrder order.Report = 0
-numberOfOrder (order.Store i) = 0

@@ -17,7 +17,8 @@ use Rattle.lamp.specs.declared.Colour.the-variants.{Red, Green, Orange}
 use Rattle.lamp.specs.declared.Lamp.{Lamp}
 use Rattle.lamp.specs.Lamp.{freshLamp, signalSet, entered, nextLamp, byHalves, bitOf, bitColour, versionColour, diagnostic, diagnosed, normalColour}
 use Rattle.lamp.specs.Lamp.{modeColour, colour, inverted, output}
-use Rattle.lamp.specs.Promises.{lampTicks, lampSkip, blinkAfter, versionAfter, CaseI}
+use Rattle.lamp.specs.Promises.{lampSkip}
+use Rattle.lamp.specs.Code.{lampTicks, blinkAfter, versionAfter, CaseI}
 
 -- No tick: the lamp is as it was.
 pub skip-none : (l : Lamp) → lampSkip 0 l ≡ l

@@ -1,2 +1,3 @@
 pub mod Lamp
 pub mod Promises
+pub mod Code

@@ -1,35 +1,8 @@
 -- What is promised of the lamp beyond one event: many ticks at once, and which tick shows what.
-use mathlib.Core.Path.{_≡_}
-use Prim.Native.Nat.{ℕ, zero, suc, _+_, _-_, _/_, _%_, _<_}
-use lib.Dec.{ltb}
-use Rattle.words.specs.Words.{if_then_else_}
+use Prim.Native.Nat.{ℕ}
 use Rattle.timers.specs.Timers.{lessBy, metronomeBy}
-use Rattle.units.specs.declared.Step.{Step}
-use Rattle.vault.specs.declared.Mode.{Mode}
-use Rattle.lamp.specs.declared.Colour.{Colour}
-use Rattle.lamp.specs.declared.Colour.the-variants.{Black, Red, Green}
 use Rattle.lamp.specs.declared.Lamp.{Lamp}
-use Rattle.lamp.specs.Lamp.{turnTicks, halfTicks, lamp, freshLamp, nextLamp, bitOf, bitColour, colour}
-
--- n ticks one by one, and in closed form.
-unfoldable pub lampTicks : ℕ → Lamp → Lamp
-lampTicks zero l = l
-lampTicks (suc n) l = nextLamp (lampTicks n l)
+use Rattle.lamp.specs.Lamp.{turnTicks, lamp}
 
 unfoldable pub lampSkip : ℕ → Lamp → Lamp
 lampSkip n l = lamp (lessBy n (l .version)) (metronomeBy n turnTicks (l .phase)) (lessBy n (l .blink)) (l .hue) (lessBy n (l .flash))
-
--- "colour first": a blink n ticks after it began, 60 ticks colour and 60 black.
-unfoldable pub blinkAfter : Colour → ℕ → Colour
-blinkAfter hue n = if ltb (n % turnTicks) halfTicks then hue else Black
-
--- "high bit first": the version blinks n ticks after they began.
-unfoldable pub versionAfter : ℕ → ℕ → Colour
-versionAfter digit n = blinkAfter (bitColour (bitOf digit (3 - n / turnTicks))) n
-
--- "(i) Version digit 2: red red green red", each for 60 ticks, in every mode and whatever the options and the level are.
-pub record CaseI (mode : Mode) (options : ℕ) (level : Step) : Type 0 where
-  pub first : (n : ℕ) → n < 60 → colour (lampTicks n freshLamp) mode 2 options level ≡ Red
-  pub second : (n : ℕ) → n < 60 → colour (lampTicks (120 + n) freshLamp) mode 2 options level ≡ Red
-  pub third : (n : ℕ) → n < 60 → colour (lampTicks (240 + n) freshLamp) mode 2 options level ≡ Green
-  pub fourth : (n : ℕ) → n < 60 → colour (lampTicks (360 + n) freshLamp) mode 2 options level ≡ Red

@@ -12,7 +12,6 @@ use Rattle.words.specs.Words.{Bytes}
 use Rattle.words.proofs.Laws.{cases}
 use Rattle.packet.specs.declared.Header.{Header}
 use Rattle.packet.specs.declared.Frame.the-variants.{Read}
-use Rattle.packet.specs.declared.Written.the-variants as written
 use Rattle.packet.specs.Layout.{firstByte, linkBit, repeatIn, wholeIn, secondByte, reservedIn, requestIn, countIn, sequenceIn, headerIn, headBytes, total, balance, packed}
 use Rattle.packet.specs.Reading.{readOf, messageOf}
 use Rattle.packet.specs.Writing.{laid}

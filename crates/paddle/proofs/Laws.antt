@@ -16,7 +16,8 @@ use Rattle.paddle.specs.declared.Gesture.the-variants.{Nothing, Hold, Re
 use Rattle.paddle.specs.declared.Paddle.{Paddle}
 use Rattle.paddle.specs.Paddle.{holdTicks, paddle, down, withContact, holdFrom, pressed, oneTapMore, tapped, ended, ending, goesUp, released, gestureUp}
 use Rattle.paddle.specs.Paddle.{ends, closing, completed, gesture, left, tapsKept, nextPaddle}
-use Rattle.paddle.specs.Promises.{Wait, never, after, waitFor, wait, due, past, gestureAfter, paddleTicks, paddleSkip, Once, pressFor, gestureFor, raised, CaseF, CaseG, touched}
+use Rattle.paddle.specs.Promises.{Wait, never, after, waitFor, wait, past, paddleTicks, paddleSkip, raised, touched}
+use Rattle.paddle.specs.Code.{due, gestureAfter, Once, pressFor, gestureFor, CaseF, CaseG}
 
 -- Both ways the same.
 pub either : {A : Type 0} (x : A) (b : Bool) → (if b then x else x) ≡ x

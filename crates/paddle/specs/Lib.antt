@@ -1,2 +1,3 @@
 pub mod Paddle
 pub mod Promises
+pub mod Code

@@ -9,7 +9,6 @@ use Rattle.paddle.specs.declared.Contact.the-variants.{Local, Slave}
 use Rattle.paddle.specs.declared.Gesture.{Gesture}
 use Rattle.paddle.specs.declared.Gesture.the-variants.{Nothing, Taps, Hold, Release}
 use Rattle.paddle.specs.declared.Paddle.{Paddle}
-use Rattle.paddle.specs.declared.Turn.{Turn}
 
 -- "at 180, Hold": ticks from the press. "The run closes at .. gap 180 or more": ticks from a counted tap.
 abbrev pub holdTicks : ℕ
@@ -28,9 +27,6 @@ mostTaps = 11
 
 abbrev pub paddle : Bool → Bool → ℕ → ℕ → ℕ → Paddle
 paddle local slave hold gap taps = record { local = local; slave = slave; hold = hold; gap = gap; taps = taps }
-
-abbrev pub turn : Paddle → Gesture → Turn
-turn p g = record { paddle = p; gesture = g }
 
 -- "Start and restart: .. contacts up, timers clear."
 abbrev pub freshPaddle : Paddle
@@ -96,13 +92,6 @@ completed p = if down p then Hold else closing (p .taps)
 -- A tick: the gesture, and the paddle after it.
 unfoldable pub gesture : Paddle → Gesture
 gesture p = if ends p then completed p else Nothing
-
--- Whether nothing is completed.
-unfoldable pub completesNothing : Gesture → Bool
-completesNothing Nothing = true
-completesNothing (Taps n) = false
-completesNothing Hold = false
-completesNothing Release = false
 
 unfoldable pub left : Paddle → ℕ
 left p = if down p then less (p .hold) else p .hold

@@ -7,10 +7,8 @@ use Rattle.words.specs.Words.{if_then_else_}
 use Rattle.timers.specs.Timers.{less, lessBy}
 use Rattle.paddle.specs.declared.Contact.{Contact}
 use Rattle.paddle.specs.declared.Contact.the-variants.{Local, Slave}
-use Rattle.paddle.specs.declared.Gesture.{Gesture}
-use Rattle.paddle.specs.declared.Gesture.the-variants.{Nothing, Hold, Release}
 use Rattle.paddle.specs.declared.Paddle.{Paddle}
-use Rattle.paddle.specs.Paddle.{paddle, freshPaddle, down, pressed, released, gestureUp, completed, gesture, nextPaddle}
+use Rattle.paddle.specs.Paddle.{paddle, down, pressed, released, gestureUp, gesture, nextPaddle}
 
 -- After how many ticks that complete nothing the tick comes that completes a gesture, if no edge comes first.
 pub data Wait : Type 0 where
@@ -24,18 +22,9 @@ waitFor owed left = if eqb owed 0 then never else after (less left)
 unfoldable pub wait : Paddle → Wait
 wait p = if down p then waitFor (p .hold) (p .hold) else waitFor (p .taps) (p .gap)
 
--- n ticks are just the wait; n ticks are more than the wait.
-unfoldable pub due : ℕ → Wait → Bool
-due n never = false
-due n (after k) = eqb k n
-
 unfoldable pub past : ℕ → Wait → Bool
 past n never = false
 past n (after k) = ltb k n
-
--- The gesture of the tick that follows n ticks.
-unfoldable pub gestureAfter : ℕ → Paddle → Gesture
-gestureAfter n p = if due n (wait p) then completed p else Nothing
 
 -- n ticks one by one, and in closed form: the gesture takes the taps with it.
 unfoldable pub paddleTicks : ℕ → Paddle → Paddle
@@ -44,28 +33,6 @@ paddleTicks (suc n) p = nextPaddle (paddleTicks n p)
 
 unfoldable pub paddleSkip : ℕ → Paddle → Paddle
 paddleSkip n p = paddle (p .local) (p .slave) (if down p then lessBy n (p .hold) else p .hold) (lessBy n (p .gap)) (if past n (wait p) then 0 else p .taps)
-
--- Between two edges a paddle completes at most one gesture.
-abbrev pub Once : Paddle → Type 0
-Once p = (m n : ℕ) → (gesture (paddleTicks m p) ≡ Nothing → ⊥) → (gesture (paddleTicks n p) ≡ Nothing → ⊥) → m ≡ n
-
--- A press of n ticks: the paddle let go, and the gesture then.
-abbrev pub pressFor : ℕ → Contact → Paddle → Paddle
-pressFor n contact p = released contact (paddleTicks n (pressed contact p))
-
-abbrev pub gestureFor : ℕ → Contact → Paddle → Gesture
-gestureFor n contact p = gestureUp contact (paddleTicks n (pressed contact p))
-
--- "(f) Presses of 59, 60, 179, 180 ticks: nothing, tap, tap, Hold", of a paddle just started.
-pub record CaseF (contact : Contact) : Type 0 where
-  pub nothing : (pressFor 59 contact freshPaddle .taps ≡ 0) × (gestureFor 59 contact freshPaddle ≡ Nothing)
-  pub shortest : (pressFor 60 contact freshPaddle .taps ≡ 1) × (gestureFor 60 contact freshPaddle ≡ Nothing)
-  pub longest : (pressFor 179 contact freshPaddle .taps ≡ 1) × (gestureFor 179 contact freshPaddle ≡ Nothing)
-  pub hold : (gesture (paddleTicks 179 (pressed contact freshPaddle)) ≡ Hold) × (gestureFor 180 contact freshPaddle ≡ Release)
-
--- "(g) A press at gap 179 joins the run": two taps, the second pressed 179 ticks after the first was counted.
-abbrev pub CaseG : Contact → Type 0
-CaseG contact = pressFor 60 contact (paddleTicks 179 (pressFor 60 contact freshPaddle)) .taps ≡ 2
 
 -- A paddle that is up.
 abbrev pub raised : ℕ → ℕ → ℕ → Paddle

@@ -1,7 +1,8 @@
 // One paddle: edges and ticks in, gestures out. Nothing here knows which paddle of the switch it is.
 ghost use mathlib.Core.Path.{_≡_};
-ghost use Rattle.paddle.specs.Paddle.{freshPaddle, down, pressed, released, gestureUp, nextPaddle, gesture, completesNothing, turn};
+ghost use Rattle.paddle.specs.Paddle.{freshPaddle, down, pressed, released, gestureUp, nextPaddle, gesture};
 ghost use Rattle.paddle.specs.Paddle.{withContact, holdFrom, ended, ending, tapped, oneTapMore, ends, completed, closing, left, tapsKept};
+ghost use Rattle.paddle.specs.Code.{turn, completesNothing};
 
 // Ticks from the press to Hold.
 const HOLD: u16 = 180;

@@ -23,8 +23,8 @@ use Rattle.post.specs.declared.Message.the-variants.{Empty, One, Two, Th
 use Rattle.post.specs.declared.Note.{Note}
 use Rattle.post.specs.declared.Reply.{Reply}
 use Rattle.post.specs.declared.Reply.the-variants.{Silence, Status, Registers}
-use Rattle.post.specs.Post.{header, headed, enveloped, bytesOf, gestureMessage, announced, note, noNote, noteOf, noteHeader, sentOf, valuesFrom, replyMessage, replied, front, laidLength, placedOne, Laid, place, placedAt, placed}
-use Rattle.post.specs.Promises.{NoteSent, LaysOneWay, NotesInOrder}
+use Rattle.post.specs.Post.{header, headed, enveloped, bytesOf, gestureMessage, announced, valuesFrom, replyMessage, replied, placedOne, place, placed}
+use Rattle.post.specs.Code.{note, noNote, noteOf, noteHeader, sentOf, front, laidLength, Laid, placedAt, NoteSent, LaysOneWay, NotesInOrder}
 use Rattle.registers.proofs.Laws.{range-length}
 
 -- The header of every packet sent is in the writer's ranges.

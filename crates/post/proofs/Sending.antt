@@ -21,10 +21,11 @@ use Rattle.registers.specs.Registers.{apart, valid}
 use Rattle.registers.specs.declared.Seen.{Seen}
 use Rattle.post.specs.declared.Reply.{Reply}
 use Rattle.post.specs.declared.Reply.the-variants.{Silence, Status, Registers}
-use Rattle.post.specs.Post.{header, headed, enveloped, bytesOf, gestureNumber, commandNumber, takesLevel, trimmed, chosen, gestureMessage, announced, noteOf, noteHeader, sentOf, valuesFrom, replyMessage, replied}
-use Rattle.post.specs.Promises.{Each, Carries, AnnouncedReads, RepliedReads, Announces, Hides, CaseA, CaseJ}
+use Rattle.post.specs.Post.{header, headed, enveloped, bytesOf, gestureNumber, commandNumber, takesLevel, trimmed, chosen, gestureMessage, announced, valuesFrom, replyMessage, replied}
+use Rattle.post.specs.Promises.{Each, Carries, AnnouncedReads, RepliedReads, Announces, Hides, CaseJ}
 use Rattle.registers.proofs.Laws.{apart-other, range-hidden, range-apart}
 use Rattle.post.proofs.Laws.{own-ranges, few-bytes, reply-most, note-sent}
+use Rattle.post.specs.Code.{noteOf, noteHeader, sentOf, CaseA}
 
 -- What holds of each packet of a list, and follows from it.
 pub each-so : {P Q : List ℕ → Type 0} (l : List (List ℕ)) → ((p : List ℕ) → P p → Q p) → Each P l → Each Q l

@@ -17,9 +17,10 @@ use Rattle.packet.proofs.Laws.{packed-length, written-length, exactly-written}
 use Rattle.packet.proofs.Written.{the-type}
 use Rattle.registers.specs.Registers.{rangeOf}
 use Rattle.registers.specs.declared.Seen.{Seen}
-use Rattle.post.specs.Post.{header, enveloped, valuesFrom, front, Laid}
+use Rattle.post.specs.Post.{header, enveloped, valuesFrom}
 use Rattle.registers.proofs.Laws.{range-length}
 use Rattle.post.proofs.Laws.{own-ranges, laid-short, placed-short, laid-whole, placed-whole, nothing-laid}
+use Rattle.post.specs.Code.{front, Laid}
 
 -- The writer's promise, for a message of at most 18 bytes, is what laying its packets promises.
 module _ (link : Bool) (network destination source : ℕ) (before after : List ℕ) where

@@ -1,2 +1,3 @@
 pub mod Post
 pub mod Promises
+pub mod Code

@@ -1,5 +1,4 @@
 -- What a switch sends: a paddle's link packet and a reply, as document 01 has them under "Paddles", "Commands" and "Packet layout".
-use mathlib.Core.Path.{_≡_}
 use mathlib.Core.Bool.{Bool, true, false, not, _||_}
 use mathlib.Core.List.{List, [], _∷_, _++_}
 use Prim.Native.Nat.{ℕ, _%_, min}
@@ -20,7 +19,6 @@ use Rattle.registers.specs.declared.places.Transmit.{Transmit}
 use Rattle.registers.specs.declared.places.Entry.{Entry}
 use Rattle.post.specs.declared.Message.{Message}
 use Rattle.post.specs.declared.Message.the-variants.{Empty, One, Two, Three}
-use Rattle.post.specs.declared.Note.{Note}
 use Rattle.post.specs.declared.Reply.{Reply}
 use Rattle.post.specs.declared.Reply.the-variants.{Silence, Status, Registers}
 
@@ -111,28 +109,6 @@ announced all mode paddle g percent =
     then enveloped (headed all true (transmitIn all paddle .link)) (bytesOf (gestureMessage all mode paddle g percent))
     else []
 
--- A link packet still to be laid; and none.
-abbrev pub note : ℕ → ℕ → ℕ → Message → Note
-note network source destination message =
-    record { network = network; source = source; destination = destination; message = message }
-
-abbrev pub noNote : Note
-noNote = note 0 0 0 Empty
-
--- The note of a gesture: the same packet, with network, source and link as the registers then stand.
-unfoldable pub noteOf : List ℕ → Mode → ℕ → Gesture → Percent → Note
-noteOf all mode paddle g percent =
-    if valid (transmitIn all paddle .link)
-    then note (networkIn all) (unitIn all) (transmitIn all paddle .link) (gestureMessage all mode paddle g percent)
-    else noNote
-
--- The packets of a note, one or none.
-abbrev pub noteHeader : Note → Header
-noteHeader n = header true (n .network) (n .destination) (n .source)
-
-unfoldable pub sentOf : Note → List (List ℕ)
-sentOf n = enveloped (noteHeader n) (bytesOf (n .message))
-
 -- "reply 0x90, first, values": at most 16 values.
 unfoldable pub valuesFrom : List ℕ → Seen → ℕ → ℕ → List ℕ
 valuesFrom all seen first count = 0x90 ∷ first ∷ rangeOf all seen first (min 16 count)
@@ -147,30 +123,13 @@ replyMessage all seen (Registers first count) percent = valuesFrom all seen firs
 unfoldable pub replied : List ℕ → Seen → ℕ → Reply → Percent → List (List ℕ)
 replied all seen to reply percent = enveloped (headed all false to) (replyMessage all seen reply percent)
 
--- The packet for one place; where there is none, no bytes.
-unfoldable pub front : List (List ℕ) → List ℕ
-front [] = []
-front (p ∷ rest) = p
-
--- The length of what is laid into room bytes: 0 where they are too few.
-unfoldable pub laidLength : List ℕ → ℕ → ℕ
-laidLength p room = if ltb room (length p) then 0 else length p
-
 -- The bytes of a place after a packet is laid at its front: "other bytes keep their values".
 unfoldable pub placedOne : List ℕ → List ℕ → List ℕ
 placedOne p before = if ltb (length before) (length p) then before else p ++ drop (length p) before
 
--- What laying packets into one place promises: the answer, and every byte of the place.
-pub record Laid (sent : List (List ℕ)) (before : List ℕ) (answer : ℕ) (after : List ℕ) : Type 0 where
-  pub answered : answer ≡ laidLength (front sent) (length before)
-  pub bytes : after ≡ placedOne (front sent) before
-
 -- "two places of 24": a whole buffer after a packet is laid into the place that begins at a byte of it.
 abbrev pub place : ℕ
 place = 24
-
-unfoldable pub placedAt : ℕ → List ℕ → List ℕ → List ℕ
-placedAt k p before = take k before ++ (placedOne p (take place (drop k before)) ++ drop place (drop k before))
 
 -- "Packets sent fill the places in order"
 unfoldable pub placed : List (List ℕ) → List ℕ → List ℕ

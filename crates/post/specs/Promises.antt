@@ -1,13 +1,10 @@
 -- What is promised of sending beyond the single functions: our own reader takes every packet sent, what a paddle never sends, what a
 -- reply never shows, how packets fill the places, and the worked cases.
 use mathlib.Core.Bool.{true, false}
-use mathlib.Core.List.{List, [], _∷_, _++_}
+use mathlib.Core.List.{List, [], _∷_}
 use mathlib.Core.Path.{_≡_}
 use Prim.Native.Nat.{ℕ, suc, _+_, _%_, _≤_, _<_, min}
-use lib.Dec.{eqb}
 use lib.ListN.{length, getD}
-use Rattle.words.specs.Words.{if_then_else_}
-use Rattle.units.specs.Units.{percent}
 use Rattle.units.specs.declared.Percent.{Percent}
 use Rattle.vault.specs.declared.Mode.{Mode}
 use Rattle.vault.specs.declared.Mode.the-variants.{Setup, Factory}
@@ -17,15 +14,14 @@ use Rattle.packet.specs.declared.Header.{Header}
 use Rattle.packet.specs.declared.Frame.the-variants.{Read}
 use Rattle.paddle.specs.declared.Gesture.{Gesture}
 use Rattle.paddle.specs.declared.Gesture.the-variants.{Nothing, Taps}
-use Rattle.registers.specs.Places.{networkIn, unitIn, transmitIn, entryIn, secret}
+use Rattle.registers.specs.Places.{transmitIn, entryIn, secret}
 use Rattle.registers.specs.Registers.{apart, valid}
 use Rattle.registers.specs.declared.Seen.{Seen}
 use Rattle.registers.specs.declared.Seen.the-variants.{Hidden}
 use Rattle.registers.specs.declared.places.Entry.{Entry}
-use Rattle.post.specs.declared.Note.{Note}
 use Rattle.post.specs.declared.Reply.{Reply}
-use Rattle.post.specs.declared.Reply.the-variants.{Status, Registers}
-use Rattle.post.specs.Post.{headed, bytesOf, trimmed, commandNumber, gestureMessage, announced, noteOf, sentOf, replyMessage, replied, front, Laid, place, placedAt, placed}
+use Rattle.post.specs.declared.Reply.the-variants.{Registers}
+use Rattle.post.specs.Post.{headed, bytesOf, trimmed, commandNumber, gestureMessage, announced, replyMessage, replied}
 
 -- every packet of a list
 abbrev pub Each : (List ℕ → Type 0) → List (List ℕ) → Type 0
@@ -64,12 +60,6 @@ pub record Announces (all : List ℕ) (paddle : ℕ) (p : Percent) : Type 0 wher
   pub unlinked : (mode : Mode) (g : Gesture) → transmitIn all paddle .link ≡ 0 → announced all mode paddle g p ≡ []
   pub unused : (mode : Mode) (g : Gesture) → transmitIn all paddle .link ≡ 255 → announced all mode paddle g p ≡ []
 
--- The packets of a gesture's note are those that the gesture announces.
-abbrev pub NoteSent : Type 0
-NoteSent =
-    (all : List ℕ) (mode : Mode) (paddle : ℕ) (g : Gesture) (p : Percent)
-    → sentOf (noteOf all mode paddle g p) ≡ announced all mode paddle g p
-
 -- "Outside Setup, Get Registers sends 0 for 0x02 and 0x03": 0 goes out for each of the two places, wherever the range starts, and
 -- nothing that is sent depends on what the array holds there.
 pub record Hides : Type 0 where
@@ -79,25 +69,6 @@ pub record Hides : Type 0 where
       → (seen : Seen) (to : ℕ) (reply : Reply) (p : Percent) → replied a seen to reply p ≡ replied b seen to reply p
   pub paddles : (a b : List ℕ) → apart a ≡ apart b
       → (mode : Mode) (paddle : ℕ) (g : Gesture) (p : Percent) → announced a mode paddle g p ≡ announced b mode paddle g p
-
--- No two outcomes of `lay` and `send`: the promise fixes the answer and every byte of the place.
-abbrev pub LaysOneWay : Type 0
-LaysOneWay =
-    (sent : List (List ℕ)) (before after after′ : List ℕ) (n n′ : ℕ)
-    → Laid sent before n after → Laid sent before n′ after′ → (n ≡ n′) × (after ≡ after′)
-
--- Two notes laid one after the other, the second into the first place that is free, fill the places in order.
-abbrev pub NotesInOrder : Type 0
-NotesInOrder =
-    (first second : Note) (before : List ℕ) → place + place ≤ length before
-    → placedAt (if eqb (length (front (sentOf first))) 0 then 0 else place) (front (sentOf second)) (placedAt 0 (front (sentOf first)) before)
-    ≡ placed (sentOf first ++ sentOf second) before
-
--- "(a) .. is answered by 08 00 01 09 05 86 28 3B": network 1, unit 5, 40 percent, from sender 9.
-abbrev pub CaseA : Type 0
-CaseA =
-    (all : List ℕ) (seen : Seen) → networkIn all ≡ 1 → unitIn all ≡ 5
-    → replied all seen 9 Status (percent 40) ≡ (0x08 ∷ 0x00 ∷ 0x01 ∷ 0x09 ∷ 0x05 ∷ 0x86 ∷ 0x28 ∷ 0x3B ∷ []) ∷ []
 
 abbrev pub entry : ℕ → ℕ → ℕ → Entry
 entry command first second = record { command = command; first = first; second = second }

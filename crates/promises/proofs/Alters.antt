@@ -12,7 +12,7 @@ use Rattle.words.specs.Words.{if_then_else_}
 use Rattle.words.proofs.Laws.{both, cases}
 use Rattle.units.specs.Units.{percentOf}
 use Rattle.units.specs.declared.Step.{Step}
-use Rattle.vault.specs.Job.{Byte, Change, Outcome, Switch, Answered, answered, became, changed, done, kept, nothing, put, settled}
+use Rattle.vault.specs.Job.{Byte, Change, Outcome, Switch, Answered, answered, became, changed, done, kept, nothing, put, settled, over, followed}
 use Rattle.vault.specs.Product
 use Rattle.vault.specs.Vault.{inSetup, matches}
 use Rattle.vault.specs.declared.Mode.{Mode}
@@ -44,18 +44,18 @@ use Rattle.judge.specs.Promises.{Accepted}
 use Rattle.judge.specs.declared.Order.{Order}
 use Rattle.judge.specs.declared.Order.the-variants as order
 use Rattle.judge.proofs.Laws.{asks}
-use Rattle.acts.specs.Core.{aged, entering, opened, saved, setting, stopping, toSave, unwritten}
+use Rattle.acts.specs.Core.{aged, entering, opened, saved, setting, stopping, toSave, unwritten, signalled}
 use Rattle.acts.specs.Gestures.{acted, actedIn, byAction, holding, actedInFactory, actedInNormal, actedInSetup, leads, tapsInFactory, tapsInNormal, tapsInSetup, writes}
 use Rattle.acts.specs.declared.Core.{Core}
 use Rattle.acts.specs.declared.Effect.{Effect}
-use Rattle.acts.specs.Orders
 use Rattle.acts.specs.Orders.{performed, storing}
 use Rattle.acts.proofs.Laws.{gesture-writes, order-writes}
+use Rattle.acts.specs.Code.{orderWrites}
 use Rattle.registers.specs.declared.Seen.the-variants as seen
 use Rattle.post.specs.declared.Reply.the-variants as reply
 use Rattle.switch.specs.Switch.{Deed, Event, Plain, Shown, event, press, receive, release, restart, tick}
-use Rattle.switch.specs.Paddles.{Moment, after, followed, over, turned, turns}
-use Rattle.switch.specs.Events.{SwitchJob, outcomeOf, begun, jobOfDeed, finished, garbled, gestureAt, jobOfGet, job, kindOf, known, plainAfter, jobOfAct, jobOfGuess, jobOfOrder, paddleAt, paddleOf, jobOfPress, jobOfFrame, jobOfBytes, refused, jobOfRelease, jobOfRestart, signalled, signalledBy, jobOfTick, woken}
+use Rattle.switch.specs.Paddles.{Moment, after, turned, turns}
+use Rattle.switch.specs.Events.{SwitchJob, outcomeOf, begun, jobOfDeed, finished, garbled, gestureAt, jobOfGet, job, kindOf, known, plainAfter, jobOfAct, jobOfGuess, jobOfOrder, paddleAt, paddleOf, jobOfPress, jobOfFrame, jobOfBytes, refused, jobOfRelease, jobOfRestart, signalledBy, jobOfTick, woken}
 use Rattle.switch.specs.Respond.{respond}
 use Rattle.promises.specs.Bounds.{Sane}
 use Rattle.promises.specs.Modes.{modeFor}
@@ -264,14 +264,14 @@ module _ (s : Switch Plain) where
   restart-says = (refl, refl)
 
   -- A packet.
-  obeyed-says : (o : Order) (source : ℕ) (values : List ℕ) → Says s (writing (Orders.orderWrites o (p .core .dimmer .level)) values ∷ []) (settled (s .password) (jobOfAct o source values p))
+  obeyed-says : (o : Order) (source : ℕ) (values : List ℕ) → Says s (writing (orderWrites o (p .core .dimmer .level)) values ∷ []) (settled (s .password) (jobOfAct o source values p))
   unfolding jobOfAct outcomeOf plainAfter settled written rewritten
   obeyed-says o source values =
       let same = order-writes (p .registers) o (p .core) in
       (ap (λ (w : Write). applied w values (p .registers)) same, ap (λ (w : Write). changed (changeOf w values) (s .password)) same)
 
   -- An order that writes nothing.
-  quiet-says : (o : Order) (source : ℕ) (values : List ℕ) → Orders.orderWrites o (p .core .dimmer .level) ≡ write.Nothing → Says s [] (settled (s .password) (jobOfAct o source values p))
+  quiet-says : (o : Order) (source : ℕ) (values : List ℕ) → orderWrites o (p .core .dimmer .level) ≡ write.Nothing → Says s [] (settled (s .password) (jobOfAct o source values p))
   unfolding written rewritten applied changeOf changeAt changed became
   quiet-says o source values none =
       let one = obeyed-says o source values in
@@ -298,7 +298,7 @@ module _ (s : Switch Plain) where
   store-says i source values = (refl, refl)
 
   order-says : (o : Order) (source : ℕ) (values : List ℕ) → Says s (byOrder s o values) (settled (s .password) (jobOfOrder o source values p))
-  unfolding byOrder jobOfOrder Orders.orderWrites
+  unfolding byOrder jobOfOrder orderWrites
   order-says (order.Refused n) source values = refused-says n
   order-says (order.Open guess) source values = open-says guess values
   order-says order.Close source values = quiet-says order.Close source values refl

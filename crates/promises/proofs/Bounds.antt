@@ -32,7 +32,7 @@ use Rattle.registers.proofs.Writing.{write-dead, write-length}
 use Rattle.judge.specs.Judge.{judged}
 use Rattle.judge.specs.declared.Order.{Order}
 use Rattle.judge.specs.declared.Order.the-variants as order
-use Rattle.acts.specs.Core.{aged, entering, opened, saved}
+use Rattle.acts.specs.Core.{aged, entering, opened, saved, signalled}
 use Rattle.acts.specs.Gestures.{acted}
 use Rattle.acts.specs.Orders.{performed}
 use Rattle.acts.specs.declared.Core.{Core}
@@ -45,7 +45,7 @@ use Rattle.post.specs.declared.Reply.the-variants as reply
 use Rattle.post.proofs.Sending.{announced-one, announced-reads, each-so, enveloped-one, replied-reads}
 use Rattle.switch.specs.Switch.{Deed, Event, Plain, Shown, answerOf, answerWith, press, receive, release, restart, shown, tally, tick}
 use Rattle.switch.specs.Paddles.{Moment, after, turned, turns}
-use Rattle.switch.specs.Events.{SwitchJob, outcomeOf, begun, jobOfDeed, finished, garbled, gestureAt, jobOfGet, hueOf, job, known, plainAfter, jobOfAct, jobOfGuess, jobOfOrder, paddleOf, pressedAt, jobOfPress, jobOfFrame, jobOfBytes, refused, releasedAt, jobOfRelease, replyTo, jobOfRestart, signalled, signalledBy, jobOfTick, woken}
+use Rattle.switch.specs.Events.{SwitchJob, outcomeOf, begun, jobOfDeed, finished, garbled, gestureAt, jobOfGet, hueOf, job, known, plainAfter, jobOfAct, jobOfGuess, jobOfOrder, paddleOf, pressedAt, jobOfPress, jobOfFrame, jobOfBytes, refused, releasedAt, jobOfRelease, replyTo, jobOfRestart, signalledBy, jobOfTick, woken}
 use Rattle.switch.specs.Respond.{respond, startedFrom, wallSwitch}
 use Rattle.promises.specs.Bounds.{Bounded, OfSize, Sane, WithinBounds}
 use Rattle.promises.proofs.Outcomes.{Every, every-answer}

@@ -7,12 +7,12 @@ use Prim.Native.Nat.{ℕ, _+_}
 use native.Mathlib.Omega.{arith}
 use lib.Dec.{eqb, ltb}
 use Rattle.words.proofs.Laws.{both, cases}
-use Rattle.vault.specs.Job.{Byte, Change, kept, put}
-use Rattle.vault.specs.Product.{Careful, Proper, Whole}
+use Rattle.vault.specs.Job.{Byte, Change, kept, put, over, followed}
 use Rattle.vault.specs.Vault.{inSetup}
 use Rattle.vault.specs.declared.Mode.{Mode}
 use Rattle.vault.specs.declared.Mode.the-variants.{Normal, Setup, Factory}
 use Rattle.vault.specs.declared.Password.{Password}
+use Rattle.vault.specs.Code.{Whole, Proper, Careful}
 use Rattle.packet.specs.Reading.{messageOf, readOf}
 use Rattle.packet.specs.declared.Frame.{Frame}
 use Rattle.packet.specs.declared.Frame.the-variants as frame
@@ -29,15 +29,15 @@ use Rattle.judge.specs.Judge.{judged}
 use Rattle.judge.specs.declared.Order.{Order}
 use Rattle.judge.specs.declared.Order.the-variants as order
 use Rattle.judge.proofs.Laws.{asks}
-use Rattle.acts.specs.Core.{aged, entering, opened, saved, toSave}
+use Rattle.acts.specs.Core.{aged, entering, opened, saved, toSave, signalled}
 use Rattle.acts.specs.Gestures.{acted, writes}
-use Rattle.acts.specs.Orders
 use Rattle.acts.specs.declared.Core.{Core}
 use Rattle.acts.specs.declared.Effect.{Effect}
 use Rattle.acts.proofs.Laws.{gesture-writes, order-writes}
+use Rattle.acts.specs.Code.{orderWrites}
 use Rattle.switch.specs.Switch.{Plain, Deed, press, release, tick, receive, restart}
-use Rattle.switch.specs.Paddles.{Moment, after, followed, over, turned, turns}
-use Rattle.switch.specs.Events.{SwitchJob, outcomeOf, begun, jobOfDeed, finished, jobOfGet, job, known, plainAfter, jobOfAct, jobOfGuess, jobOfOrder, jobOfPress, jobOfBytes, jobOfFrame, jobOfRelease, jobOfRestart, signalled, jobOfTick}
+use Rattle.switch.specs.Paddles.{Moment, after, turned, turns}
+use Rattle.switch.specs.Events.{SwitchJob, outcomeOf, begun, jobOfDeed, finished, jobOfGet, job, known, plainAfter, jobOfAct, jobOfGuess, jobOfOrder, jobOfPress, jobOfBytes, jobOfFrame, jobOfRelease, jobOfRestart, jobOfTick}
 use Rattle.switch.specs.Respond.{wallSwitch}
 
 -- Both bytes of a change are kept, or both are put.
@@ -117,7 +117,7 @@ unfolding inSetup
 set-in-setup p h m first e out =
     true≢false (sym (ap inSetup (asks (order.Set first) (p .registers) (p .core .mode) h m e .when)) ∙ out)
 
-obeying-fine : (p : Plain) (o : Order) (source : ℕ) (values : List ℕ) → Unset (Orders.orderWrites o (p .core .dimmer .level)) → Fine p (jobOfAct o source values p)
+obeying-fine : (p : Plain) (o : Order) (source : ℕ) (values : List ℕ) → Unset (orderWrites o (p .core .dimmer .level)) → Fine p (jobOfAct o source values p)
 unfolding jobOfAct
 obeying-fine p o source values u =
     λ _. password-whole _ values (subst Unset (sym (order-writes (p .registers) o (p .core))) u)
@@ -137,7 +137,7 @@ unfolding jobOfAct
 setting-fine p first source values only = λ out. absurd (only out)
 
 ordering-fine : (p : Plain) (h : Header) (m : List ℕ) (o : Order) (source : ℕ) (values : List ℕ) → judged (p .registers) (p .core .mode) h m ≡ o → Fine p (jobOfOrder o source values p)
-unfolding jobOfOrder Orders.orderWrites
+unfolding jobOfOrder orderWrites
 ordering-fine p h m (order.Refused n) source values e = λ _. tt
 ordering-fine p h m (order.Open guess) source values e = opening-fine p guess
 ordering-fine p h m order.Close source values e = obeying-fine p order.Close source values unset-nothing

@@ -21,14 +21,14 @@ use Rattle.dimmer.specs.declared.Dimmer.{Dimmer}
 use Rattle.dimmer.specs.declared.Motion.the-variants.{Idle}
 use Rattle.dimmer.proofs.Laws.{fade-ends, fade-runs}
 use Rattle.lamp.specs.Lamp.{bitOf, bitColour, signalSet, colour, freshLamp}
-use Rattle.lamp.specs.Promises.{blinkAfter, versionAfter}
 use Rattle.lamp.specs.declared.Lamp.{Lamp}
 use Rattle.lamp.proofs.Laws.{output-plain, skip-none, version-shows}
+use Rattle.lamp.specs.Code.{blinkAfter, versionAfter}
 use Rattle.packet.specs.Layout.{firstByte, headerIn, reservedIn, secondByte, total, wholeIn}
 use Rattle.packet.specs.Reading.{messageOf, readOf}
 use Rattle.packet.specs.declared.Frame.the-variants as frame
 use Rattle.packet.proofs.Laws as packet
-use Rattle.paddle.specs.Paddle.{down, freshPaddle, nextPaddle, pressed}
+use Rattle.paddle.specs.Paddle.{down, freshPaddle, pressed}
 use Rattle.paddle.specs.declared.Gesture.the-variants.{Taps}
 use Rattle.paddle.specs.declared.Paddle.{Paddle}
 use Rattle.registers.specs.Places.{counterPlace, digitIn, dimmingIn, lightIn, networkIn, singleIn, size}
@@ -39,22 +39,22 @@ use Rattle.registers.specs.declared.Seen.the-variants as seen
 use Rattle.judge.specs.Judge.{judged}
 use Rattle.judge.specs.declared.Order.the-variants as order
 use Rattle.judge.proofs.Laws as judge
-use Rattle.acts.specs.Core.{entering, opened, setting, startLevel, started, unwritten}
+use Rattle.acts.specs.Core.{entering, opened, setting, startLevel, started, unwritten, signalled}
 use Rattle.acts.specs.Gestures.{acted, actedIn, byAction, actedInNormal, tapsInNormal}
 use Rattle.acts.specs.Orders.{performed}
 use Rattle.post.specs.Post.{enveloped, header, replied, replyMessage}
 use Rattle.post.specs.declared.Reply.the-variants as reply
 use Rattle.post.proofs.Sending.{case-a, case-j}
 use Rattle.switch.specs.Switch.{Event, Plain, Shown, answerOf, answerWith, event, freshPaddles, press, receive}
-use Rattle.switch.specs.Events.{SwitchJob, outcomeOf, finished, job, kindOf, plainAfter, jobOfAct, jobOfGuess, jobOfOrder, paddleAt, paddleOf, pressedAt, jobOfPress, refused, replyTo, signalled, woken}
+use Rattle.switch.specs.Events.{SwitchJob, outcomeOf, finished, job, kindOf, plainAfter, jobOfAct, jobOfGuess, jobOfOrder, paddleAt, paddleOf, pressedAt, jobOfPress, refused, replyTo, woken}
 use Rattle.switch.specs.Respond.{respond, startAnswer, startedFrom, wallSwitch}
 use Rattle.promises.specs.Cases.{Bench, Cases, Dark, benchImage, darkImage, packetA, packetB, packetC, packetE, packetFull, packetHalf, replyA, zeros}
-use Rattle.promises.specs.Numbers.{numberAt, refused as row-refused, wrong-password, wrong-sum}
-use Rattle.promises.specs.Ticking.{Accepts, AtRest, Fades, Shows, blinks, coloursOf, dimmerBy, dimmerIn, modeIn, nextTick, nthTick, repeated, runOf, ticksOf, with48}
+use Rattle.promises.specs.Numbers.{Asks, numberAt, refused as row-refused, wrong-password, wrong-sum}
+use Rattle.promises.specs.Ticking.{AtRest, Fades, Shows, blinks, coloursOf, dimmerBy, dimmerIn, modeIn, nextTick, nthTick, repeated, runOf, ticksOf, with48}
 use Rattle.promises.proofs.Jobs.{press-job, receive-job}
 use Rattle.promises.proofs.Numbers.{numbers}
 use Rattle.promises.proofs.Presses.{is-double, is-hold, is-nothing, is-tap}
-use Rattle.promises.proofs.Ticks.{left-to-itself, plainAfter, registers-agree, rest-as, rest-is-silent, shows-as, silent-quiet, tabulated, tick-after, ticks-shown}
+use Rattle.promises.proofs.Ticks.{left-to-itself, plainTicked, registers-agree, rest-as, rest-is-silent, shows-as, silent-quiet, tabulated, tick-after, ticks-shown}
 pub use Rattle.promises.proofs.Ticks.{next-at, run-joined, ticks-shift}
 
 -- How the packets are read.
@@ -199,7 +199,7 @@ begins-dark : (last target : Step) (each : ℕ) → 0 < each → 0 < target .0 �
 unfolding headingTo
 begins-dark last target each some lit = rw (ne-eqb each 0 (omega arith), ne-eqb 0 (target .0) (omega arith))
 
-module _ (s : Switch Plain) (room : ℕ) (bytes : List ℕ) (enough : 48 ≤ room) (dark : Dark s) (level rate : ℕ) (accepts : Accepts s bytes (order.Goto level rate)) where
+module _ (s : Switch Plain) (room : ℕ) (bytes : List ℕ) (enough : 48 ≤ room) (dark : Dark s) (level rate : ℕ) (accepts : Asks s bytes (order.Goto level rate)) where
   abbrev goto : Event
   goto = event room (receive bytes)
 
@@ -300,7 +300,7 @@ module _ (image : List ℕ) (whole : length image ≡ size) (two : getD image 0x
   unfolding answerOf answerWith startedFrom woken started
   tick-shows k h =
       let s = startedFrom image in
-      let p = plainAfter (suc k) (s .plain) in
+      let p = plainTicked (suc k) (s .plain) in
       let rest = start-rests image in
       ap (λ a. a .shown .answer .colour) (tick-after k s (silent-quiet (suc k) s (rest .two) (rest-is-silent s (suc k) rest)))
       ∙ version-shows (suc k) freshLamp (p .core .mode) (digitIn (p .registers)) (lightIn (p .registers)) (p .core .dimmer .level) refl (omega arith)
@@ -339,7 +339,7 @@ dark-linked : found (startedFrom darkImage .plain .registers) 3 ≡ At 0
 unfolding startedFrom woken apart darkImage benchImage zeros applied counterPlace oneMore stored found seek valid
 dark-linked = refl
 
-accepts : (bytes : List ℕ) (level rate : ℕ) → readOf bytes ≡ frame.Read (header true 1 3 9) → messageOf bytes ≡ 0x22 ∷ level ∷ rate ∷ [] → Accepts (startedFrom darkImage) bytes (order.Goto level rate)
+accepts : (bytes : List ℕ) (level rate : ℕ) → readOf bytes ≡ frame.Read (header true 1 3 9) → messageOf bytes ≡ 0x22 ∷ level ∷ rate ∷ [] → Asks (startedFrom darkImage) bytes (order.Goto level rate)
 accepts bytes level rate read message = record {
   header = header true 1 3 9;
   sound = packet.sound bytes (header true 1 3 9) read;
@@ -351,11 +351,11 @@ accepts bytes level rate read message = record {
   };
 }
 
-accepts-half : Accepts (startedFrom darkImage) packetHalf (order.Goto 50 4)
+accepts-half : Asks (startedFrom darkImage) packetHalf (order.Goto 50 4)
 unfolding readOf messageOf headerIn firstByte secondByte wholeIn reservedIn total
 accepts-half = accepts packetHalf 50 4 refl refl
 
-accepts-full : Accepts (startedFrom darkImage) packetFull (order.Goto 100 15)
+accepts-full : Asks (startedFrom darkImage) packetFull (order.Goto 100 15)
 unfolding readOf messageOf headerIn firstByte secondByte wholeIn reservedIn total
 accepts-full = accepts packetFull 100 15 refl refl
 

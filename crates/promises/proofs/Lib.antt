@@ -16,3 +16,4 @@ pub mod Passing
 pub mod Reached
 pub mod Presets
 pub mod Clock
+pub mod Roof

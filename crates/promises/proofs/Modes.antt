@@ -18,14 +18,13 @@ use Rattle.paddle.specs.declared.Contact.{Contact}
 use Rattle.paddle.specs.declared.Gesture.{Gesture}
 use Rattle.paddle.specs.declared.Gesture.the-variants.{Nothing, Taps, Hold, Release}
 use Rattle.paddle.specs.declared.Paddle.{Paddle}
-use Rattle.acts.specs.Core.{aged, saved}
+use Rattle.acts.specs.Core.{aged, saved, signalled}
 use Rattle.acts.specs.Gestures.{leads}
 use Rattle.acts.specs.declared.Core.{Core}
 use Rattle.acts.proofs.Laws.{gesture-leads}
 use Rattle.switch.specs.Switch.{Plain}
 use Rattle.switch.specs.Paddles.{Moment, after, turned, turns}
-use Rattle.switch.specs.Events.{begun, finished, signalled, signalledBy, jobOfTick}
-use Rattle.switch.specs.Respond.{respond}
+use Rattle.switch.specs.Events.{begun, finished, signalledBy, jobOfTick}
 use Rattle.promises.specs.Modes.{FindsModes, modeFor}
 use Rattle.promises.proofs.Jobs.{tick-job}
 

@@ -12,7 +12,7 @@ use lib.Seq.{set-getD}
 use Rattle.words.specs.Words.{if_then_else_}
 use Rattle.words.proofs.Laws.{both, cases}
 use Rattle.units.specs.Units.{percentOf}
-use Rattle.vault.specs.Job.{Answered, Outcome, Switch, answered, became, changed, done as finally, nothing, outcome, settled}
+use Rattle.vault.specs.Job.{Answered, Outcome, Switch, answered, became, changed, done as finally, nothing, outcome, settled, over, followed}
 use Rattle.vault.specs.Product
 use Rattle.vault.specs.Vault.{inSetup, matches}
 use Rattle.vault.specs.declared.Password.{Password}
@@ -40,9 +40,9 @@ use Rattle.registers.specs.declared.Taken.the-variants.{Refused}
 use Rattle.registers.specs.Write.{applied, changeAt, changeOf}
 use Rattle.registers.specs.declared.Seen.the-variants as seen
 use Rattle.switch.specs.Switch.{Deed, Event, Plain, Shown, answerOf, answerWith, event, plain, press, receive, release, restart, shown, tick}
-use Rattle.switch.specs.Paddles.{after, followed, over, turned}
+use Rattle.switch.specs.Paddles.{after, turned}
 use Rattle.switch.specs.Events.{SwitchJob, outcomeOf, jobOfDeed, finished, garbled, gestureAt, jobOfGet, job, kindOf, known, jobOfAct, jobOfGuess, jobOfOrder, paddleAt, paddleOf, pressedAt, jobOfPress, jobOfFrame, jobOfBytes, refused, releasedAt, jobOfRelease, jobOfRestart, signalledBy, jobOfTick}
-use Rattle.switch.specs.Respond.{noAnswer, respond, startAnswer, startedFrom, wallSwitch}
+use Rattle.switch.specs.Respond.{noAnswer, startAnswer, startedFrom, wallSwitch}
 use Rattle.promises.proofs.Jobs.{press-job, release-job}
 use Rattle.promises.specs.Numbers.{AlreadySo, DeedRefused, downAt, Exactly, FourteenExactly, Idle, Numbers, OnlyThese, PacketRefused, RefusalsChangeNothing, Row, StartExactly, Or0Or2, WrongGuess, blackened, done, isGarbled, no-room, not-accepted, numberAt, numberOfStart, refused as row-refused, reserved-bit, too-long, too-short, wrong-length, wrong-password, wrong-sum}
 

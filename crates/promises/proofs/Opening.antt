@@ -31,14 +31,14 @@ use Rattle.judge.specs.Promises.{NotFor}
 use Rattle.judge.specs.declared.Order.{Order}
 use Rattle.judge.specs.declared.Order.the-variants as order
 use Rattle.judge.proofs.Laws as judge
-use Rattle.acts.specs.Core.{entering, opened, started}
+use Rattle.acts.specs.Core.{entering, opened, started, signalled}
 use Rattle.acts.specs.Orders.{performed}
-use Rattle.acts.specs.Orders
 use Rattle.acts.proofs.Laws.{order-leads}
+use Rattle.acts.specs.Code.{orderLeads}
 use Rattle.post.specs.declared.Reply.the-variants as reply
 use Rattle.switch.specs.Switch.{Deed, Plain, Shown, answerOf, answerWith, event, press, receive, release, restart, tick}
 use Rattle.switch.specs.Paddles.{Moment, turned}
-use Rattle.switch.specs.Events.{SwitchJob, outcomeOf, begun, jobOfDeed, finished, garbled, gestureAt, jobOfGet, job, known, plainAfter, jobOfAct, jobOfGuess, jobOfOrder, paddleOf, jobOfPress, jobOfFrame, jobOfBytes, refused, jobOfRelease, jobOfRestart, signalled, jobOfTick, woken}
+use Rattle.switch.specs.Events.{SwitchJob, outcomeOf, begun, jobOfDeed, finished, garbled, gestureAt, jobOfGet, job, known, plainAfter, jobOfAct, jobOfGuess, jobOfOrder, paddleOf, jobOfPress, jobOfFrame, jobOfBytes, refused, jobOfRelease, jobOfRestart, jobOfTick, woken}
 use Rattle.switch.specs.Respond.{respond, wallSwitch}
 use Rattle.promises.specs.Demand3.{Outside}
 use Rattle.promises.specs.Numbers.{numberAt}
@@ -78,7 +78,7 @@ module _ (s : Switch Plain) (out : Outside s) where
       inr (record { ticked = refl; paddle = f .paddle; closes = record { there = f .there; taps = f .five; finds = f .finds } })
 
   module _ (bytes : List ℕ) where
-    obey-leads : (o : Order) (source : ℕ) (values : List ℕ) → Leaves (receive bytes) (Orders.orderLeads o (s .plain .core .mode))
+    obey-leads : (o : Order) (source : ℕ) (values : List ℕ) → Leaves (receive bytes) (orderLeads o (s .plain .core .mode))
         → Leads (receive bytes) (jobOfAct o source values (s .plain))
     unfolding jobOfAct outcomeOf plainAfter signalled settled
     obey-leads o source values l to = l (sym (ap inSetup (order-leads (s .plain .registers) o (s .plain .core))) ∙ to)
@@ -95,7 +95,7 @@ module _ (s : Switch Plain) (out : Outside s) where
         (λ m. same-mode (receive bytes) _ refl)
 
     get-leads : (first count source : ℕ) → Leads (receive bytes) (jobOfGet first count source (s .plain))
-    unfolding jobOfGet outcomeOf plainAfter signalled settled Orders.orderLeads
+    unfolding jobOfGet outcomeOf plainAfter signalled settled orderLeads
     get-leads first count source =
         let stays : Leaves (receive bytes) (performed (s .plain .registers) (order.Get first count) (s .plain .core) .core .mode) =
         same-mode (receive bytes) _ (order-leads (s .plain .registers) (order.Get first count) (s .plain .core)) in
@@ -103,7 +103,7 @@ module _ (s : Switch Plain) (out : Outside s) where
 
     order-opens : (h : Header) (o : Order) → Sound bytes h → judged (s .plain .registers) (s .plain .core .mode) h (messageOf bytes) ≡ o
         → (source : ℕ) (values : List ℕ) → Leads (receive bytes) (jobOfOrder o source values (s .plain))
-    unfolding jobOfOrder refused settled Orders.orderLeads inSetup
+    unfolding jobOfOrder refused settled orderLeads inSetup
     order-opens h (order.Refused n) so e source values = same-mode (receive bytes) _ refl
     order-opens h (order.Open guess) so e source values = open-leads h guess so e
     order-opens h order.Close so e source values = obey-leads order.Close source values (λ to. absurd (false≢true to))
@@ -201,6 +201,6 @@ pub opening : Opening
 opening = record {
   only = only-so;
   password = password-opens;
-  jobOfGuess = λ s room h enough normal ranges direct network unit nonzero.
+  opens = λ s room h enough normal ranges direct network unit nonzero.
       password-opens s (event room (receive (startSetup h (s .password)))) enough (own-password s h normal ranges direct network unit nonzero) .1;
 }

@@ -27,18 +27,19 @@ use Rattle.dimmer.specs.declared.Motion.the-variants.{Idle, Fading, Blinking}
 use Rattle.lamp.specs.Lamp.{signalSet}
 use Rattle.lamp.specs.declared.Lamp.{Lamp}
 use Rattle.lamp.proofs.Laws.{output-plain}
-use Rattle.paddle.specs.Paddle.{closing, oneTapMore, down, freshPaddle, gesture, gestureUp, nextPaddle, completesNothing, pressed, released}
-use Rattle.paddle.specs.Promises.{due, gestureFor, past, pressFor, raised, paddleSkip, paddleTicks, wait, waitFor}
+use Rattle.paddle.specs.Paddle.{closing, oneTapMore, down, freshPaddle, gesture, gestureUp, nextPaddle, pressed, released}
+use Rattle.paddle.specs.Promises.{past, raised, paddleSkip, paddleTicks, wait, waitFor}
 use Rattle.paddle.specs.declared.Contact.{Contact}
 use Rattle.paddle.specs.declared.Gesture.{Gesture}
 use Rattle.paddle.specs.declared.Gesture.the-variants.{Hold, Nothing, Release, Taps}
 use Rattle.paddle.specs.declared.Paddle.{Paddle}
 use Rattle.paddle.proofs.Laws as paddle
+use Rattle.paddle.specs.Code.{completesNothing, due, pressFor, gestureFor}
 use Rattle.registers.specs.Places.{actionPlace, dimmingIn, doubleIn, entryIn, entryPlace, singleIn, transmitIn, transmitPlace}
 use Rattle.registers.specs.Write.{applied}
 use Rattle.registers.specs.declared.write.Write.{Write}
 use Rattle.registers.specs.declared.write.Write.the-variants.{Factory as FactoryValues, Nothing as Unwritten}
-use Rattle.acts.specs.Core.{aged, effect, entering, opened, saved, setting, stopping, unwritten}
+use Rattle.acts.specs.Core.{aged, effect, entering, opened, saved, setting, stopping, unwritten, signalled}
 use Rattle.acts.specs.Gestures.{acted, actedIn, byAction, far, holding, actedInFactory, actedInNormal, actedInSetup, leads, tapsInFactory, tapsInNormal, tapsInSetup, writes}
 use Rattle.acts.specs.declared.Core.{Core}
 use Rattle.acts.specs.declared.Effect.{Effect}
@@ -46,7 +47,7 @@ use Rattle.acts.proofs.Laws.{gesture-leads, gesture-writes}
 use Rattle.post.specs.Post.{announced, chosen, gestureMessage}
 use Rattle.switch.specs.Switch.{Event, Plain, answerOf, answerWith, plain, press, release, tick}
 use Rattle.switch.specs.Paddles.{Moment, after, turned, turns}
-use Rattle.switch.specs.Events.{begun, finished, gestureAt, kindOf, paddleAt, paddleOf, pressedAt, releasedAt, jobOfRelease, signalled, signalledBy, jobOfTick}
+use Rattle.switch.specs.Events.{begun, finished, gestureAt, kindOf, paddleAt, paddleOf, pressedAt, releasedAt, jobOfRelease, signalledBy, jobOfTick}
 use Rattle.switch.specs.Code.{quiet}
 use Rattle.switch.specs.Respond.{respond, wallSwitch}
 use Rattle.switch.proofs.Quick.{plainly, quick-press, quick-release, turned-nothing}

@@ -10,13 +10,13 @@ use Rattle.vault.specs.Machine.{run}
 use Rattle.paddle.specs.Paddle.{freshPaddle, withContact, pressed}
 use Rattle.paddle.specs.declared.Paddle.{Paddle}
 use Rattle.registers.specs.Places.{size}
-use Rattle.switch.specs.Switch.{Deed, Plain, answerOf, answerWith, event, held, press, receive, tally, tick}
-use Rattle.switch.specs.Events.{kindOf, paddleAt, paddleOf}
+use Rattle.switch.specs.Switch.{Deed, Plain, answerOf, answerWith, event, held, press, receive, tally, tick, liveIn}
+use Rattle.switch.specs.Events.{kindOf, paddleAt, paddleOf, woken}
 use Rattle.switch.specs.Respond.{respond, startedFrom}
 use Rattle.switch.specs.declared.Answer.{Answer}
 use Rattle.promises.specs.Cases.{benchImage, packetA, zeros}
 use Rattle.promises.specs.Numbers.{Unchanged, done, no-room, numberAt}
-use Rattle.promises.specs.Rivals.{Meets, OneOutcome, StoodAt, Rival, ShutsOut, deaf, fixed, honest, inventing, liveOf, once, refusing}
+use Rattle.promises.specs.Rivals.{Meets, OneOutcome, StoodAt, Rival, ShutsOut, deaf, fixed, honest, inventing, once, refusing}
 use Rattle.promises.proofs.Bounds.{within-bounds}
 use Rattle.promises.proofs.Cases.{cases, has-pressed}
 use Rattle.promises.proofs.Numbers.{numbers}
@@ -39,11 +39,11 @@ ignored : Unchanged resting (event 0 tick)
 ignored = numbers .refusals resting (event 0 tick) (λ z. omega (arith, untold))
 
 -- It stands before its first event, and after one that was refused.
-at-first : StoodAt 0 (liveOf resting) (resting .plain .registers)
+at-first : StoodAt 0 (liveIn resting) (resting .plain .registers)
 unfolding run
 at-first = record { image = benchImage; whole = bench-size; events = []; count = refl; holds = refl }
 
-at-second : StoodAt 1 (liveOf resting) (resting .plain .registers)
+at-second : StoodAt 1 (liveIn resting) (resting .plain .registers)
 unfolding run
 at-second = record {
   image = benchImage;
@@ -55,13 +55,13 @@ at-second = record {
 
 module _ (r : Rival) (m : Meets r) where
   -- What it answers there.
-  numbered : (before : ℕ) (deed : Deed) (out : List ℕ) (at : StoodAt before (liveOf resting) (resting .plain .registers))
-      → r before deed (liveOf resting) (resting .plain .registers) out .answer .number ≡ numberAt resting (event (length out) deed)
-  numbered before deed out at = ap (λ (a : Answer). a .number) (m before deed (liveOf resting) (resting .plain .registers) out at .answered)
+  numbered : (before : ℕ) (deed : Deed) (out : List ℕ) (at : StoodAt before (liveIn resting) (resting .plain .registers))
+      → r before deed (liveIn resting) (resting .plain .registers) out .answer .number ≡ numberAt resting (event (length out) deed)
+  numbered before deed out at = ap (λ (a : Answer). a .number) (m before deed (liveIn resting) (resting .plain .registers) out at .answered)
 
   counted : (deed : Deed) (out : List ℕ)
-      → r 0 deed (liveOf resting) (resting .plain .registers) out .answer .sent .count ≡ respond resting (event (length out) deed) .shown .answer .sent .count
-  counted deed out = ap (λ (a : Answer). a .sent .count) (m 0 deed (liveOf resting) (resting .plain .registers) out at-first .answered)
+      → r 0 deed (liveIn resting) (resting .plain .registers) out .answer .sent .count ≡ respond resting (event (length out) deed) .shown .answer .sent .count
+  counted deed out = ap (λ (a : Answer). a .sent .count) (m 0 deed (liveIn resting) (resting .plain .registers) out at-first .answered)
 
 refusing-not : (number : ℕ) → (number ≡ 0 → ⊥) → Meets (refusing number) → ⊥
 unfolding answerWith zeros
@@ -75,20 +75,23 @@ fixed-not answer m =
     omega arith
 
 -- A press is not ignored: its contact is down after it.
+two-up : (length (resting .plain .paddles) ≡ 2) × (paddleAt 0 (resting .plain .paddles) ≡ freshPaddle)
+unfolding startedFrom woken paddleOf
+two-up = (refl, refl)
+
 press-alters : resting ≡ respond resting (event 48 (press 0)) .next → ⊥
 unfolding pressed withContact kindOf paddleOf
 press-alters same =
-    let down = has-pressed 0 (omega arith) resting freshPaddle (cases .rests 0 .two, cases .rests 0 .rests) .1 in
-    let up : paddleAt 0 (resting .plain .paddles) ≡ freshPaddle = cases .rests 0 .rests in
-    true≢false (sym (ap (λ (p : Paddle). p .local) (sym up ∙ ap (λ (t : Switch Plain). paddleAt 0 (t .plain .paddles)) same ∙ down)))
+    let down = has-pressed 0 (omega arith) resting freshPaddle two-up .1 in
+    true≢false (sym (ap (λ (p : Paddle). p .local) (sym (two-up .1) ∙ ap (λ (t : Switch Plain). paddleAt 0 (t .plain .paddles)) same ∙ down)))
 
 deaf-not : (other : Rival) → Meets (deaf other) → ⊥
 unfolding zeros
-deaf-not other m = press-alters (m 0 (press 0) (liveOf resting) (resting .plain .registers) (zeros 48) at-first .next)
+deaf-not other m = press-alters (m 0 (press 0) (liveIn resting) (resting .plain .registers) (zeros 48) at-first .next)
 
 once-not : Meets once → ⊥
 unfolding zeros
-once-not m = press-alters (m 1 (press 0) (liveOf resting) (resting .plain .registers) (zeros 48) at-second .next)
+once-not m = press-alters (m 1 (press 0) (liveIn resting) (resting .plain .registers) (zeros 48) at-second .next)
 
 -- A refused event sends nothing, and the report of case (a) one packet.
 inventing-not : (count : ℕ) → Meets (inventing count) → ⊥
@@ -113,8 +116,8 @@ pub one-outcome : OneOutcome
 one-outcome = record {
   event = λ deed live all out a b live′ live″ all′ all″ out′ out″ x y.
       let same : held live′ all′ ≡ held live″ all″ = x .next ∙ sym (y .next) in
-      (x .answered ∙ sym (y .answered), (ap liveOf same, (ap (λ (s : Switch Plain). s .plain .registers) same, x .bytes ∙ sym (y .bytes))));
+      (x .answered ∙ sym (y .answered), (ap liveIn same, (ap (λ (s : Switch Plain). s .plain .registers) same, x .bytes ∙ sym (y .bytes))));
   start = λ image all a b live′ live″ all′ all″ x y.
       let same : held live′ all′ ≡ held live″ all″ = x .next ∙ sym (y .next) in
-      (x .answered ∙ sym (y .answered), (ap liveOf same, ap (λ (s : Switch Plain). s .plain .registers) same));
+      (x .answered ∙ sym (y .answered), (ap liveIn same, ap (λ (s : Switch Plain). s .plain .registers) same));
 }

@@ -1,5 +1,5 @@
 -- After any sequence of calls.
-use mathlib.Core.List.{List, [], _∷_, map}
+use mathlib.Core.List.{List, [], _∷_}
 use mathlib.Core.Path.{_≡_, refl, sym, ap, ap₂, _∙_, subst}
 use Prim.Native.Nat.{ℕ}
 use lib.ListN.{length, replicate}
@@ -7,15 +7,15 @@ use borrow.Author.Tests.{eq-eqb}
 use Rattle.vault.specs.Job.{Switch}
 use Rattle.vault.specs.Machine.{run, transcript}
 use Rattle.registers.specs.Places.{size}
-use Rattle.switch.specs.Switch.{Plain, Shown, held}
+use Rattle.switch.specs.Switch.{Plain, held, liveIn}
 use Rattle.switch.specs.Respond.{respond, startAnswer, startNext, startedFrom}
 use Rattle.switch.specs.declared.Answer.{Answer}
 use Rattle.switch.specs.declared.Live.{Live}
 use Rattle.post.specs.Post.{placed}
-use Rattle.host.specs.Host.{inside, responded}
+use Rattle.host.specs.Host.{responded}
 use Rattle.host.specs.Keeping.{keptCounters, keptNumbers}
-use Rattle.host.specs.Mirror.{inNumbers, liveFrom}
-use Rattle.host.specs.declared.Answer.{Answer as Numbers}
+use Rattle.host.specs.Mirror.{inFigures, liveFrom}
+use Rattle.host.specs.declared.Figures.{Figures}
 use Rattle.host.proofs.Laws.{counters-length, mirrors-back, numbers-length}
 use Rattle.promises.specs.Bounds.{Sane}
 use Rattle.promises.specs.Demand3.{eventOf, filled}
@@ -61,23 +61,23 @@ record Stands (s : Switch Plain) (counters numbers all : List ℕ) : Type 0 wher
 
 -- A switch that was started has two paddles, so what is kept of it stands for it.
 kept-stands : (t : Switch Plain) (counters numbers all : List ℕ) → Sane (t .plain) → length counters ≡ 11 → length numbers ≡ 14 → all ≡ t .plain .registers
-    → Stands t (keptCounters (inside t) counters) (keptNumbers (inside t) numbers) all
+    → Stands t (keptCounters (liveIn t) counters) (keptNumbers (liveIn t) numbers) all
 kept-stands t counters numbers all sane eleven fourteen same = record {
-  counted = counters-length (inside t) counters ∙ eleven;
-  numbered = numbers-length (inside t) numbers ∙ fourteen;
-  holds = ap₂ held (mirrors-back .live counters numbers (inside t) eleven fourteen (sane .paddles)) same;
+  counted = counters-length (liveIn t) counters ∙ eleven;
+  numbered = numbers-length (liveIn t) numbers ∙ fourteen;
+  holds = ap₂ held (mirrors-back .live counters numbers (liveIn t) eleven fourteen (sane .paddles)) same;
 }
 
-spoken : (s : Switch Plain) (counters counters″ numbers numbers″ all all″ : List ℕ) (cs : List (Call Numbers)) → Sane (s .plain) → Stands s counters numbers all
-    → Spoken counters numbers all cs counters″ numbers″ all″ → Given inNumbers s cs (held (liveFrom counters″ numbers″) all″)
-spoken s counters counters″ numbers numbers″ all all″ cs sane k (silent _ _ _) = given-none inNumbers s _ (k .holds)
+spoken : (s : Switch Plain) (counters counters″ numbers numbers″ all all″ : List ℕ) (cs : List (Call Figures)) → Sane (s .plain) → Stands s counters numbers all
+    → Spoken counters numbers all cs counters″ numbers″ all″ → Given inFigures s cs (held (liveFrom counters″ numbers″) all″)
+spoken s counters counters″ numbers numbers″ all all″ cs sane k (silent _ _ _) = given-none inFigures s _ (k .holds)
 spoken s counters counters″ numbers numbers″ all all″ cs sane k (said c cs′ _ counters′ _ _ numbers′ _ _ all′ _ meets rest) =
     let t = respond s (eventOf (c .lent)) in
     let same : responded (c .lent .deed) counters numbers all (length (c .lent .buffer)) ≡ t = ap (λ (u : Switch Plain). respond u (eventOf (c .lent))) (k .holds) in
     let keeps = kept-stands (t .next) counters numbers all′ (within-bounds .stays s (eventOf (c .lent)) sane) (k .counted) (k .numbered) (meets .registers ∙ ap (λ a. a .next .plain .registers) same) in
-    let stands = subst (λ (n : List ℕ). Stands (t .next) counters′ n all′) (ap (λ a. keptNumbers (inside (a .next)) numbers) (sym same) ∙ sym (meets .numbered))
-    (subst (λ (m : List ℕ). Stands (t .next) m (keptNumbers (inside (t .next)) numbers) all′) (ap (λ a. keptCounters (inside (a .next)) counters) (sym same) ∙ sym (meets .counted)) keeps) in
-    given-more inNumbers s _ c cs′ (meets .answered ∙ ap (λ a. inNumbers (a .shown .answer)) same) (meets .bytes ∙ ap (λ a. placed (a .shown .sent) (c .lent .buffer)) same)
+    let stands = subst (λ (n : List ℕ). Stands (t .next) counters′ n all′) (ap (λ a. keptNumbers (liveIn (a .next)) numbers) (sym same) ∙ sym (meets .numbered))
+    (subst (λ (m : List ℕ). Stands (t .next) m (keptNumbers (liveIn (t .next)) numbers) all′) (ap (λ a. keptCounters (liveIn (a .next)) counters) (sym same) ∙ sym (meets .counted)) keeps) in
+    given-more inFigures s _ c cs′ (meets .answered ∙ ap (λ a. inFigures (a .shown .answer)) same) (meets .bytes ∙ ap (λ a. placed (a .shown .sent) (c .lent .buffer)) same)
     (spoken (t .next) counters′ counters″ numbers′ numbers″ all′ all″ cs′ (within-bounds .stays s (eventOf (c .lent)) sane) stands rest)
 
 pub after-any-spoken : AfterAnySpoken
@@ -88,5 +88,5 @@ after-any-spoken image counters numbers all r counters′ counters″ numbers′
     let t = startedFrom image in
     let keeps = kept-stands t (replicate 11 0) (replicate 14 0) all′ sane refl refl (begins .registers ∙ rw whole) in
     let stands = subst (λ (n : List ℕ). Stands t counters′ n all′) (sym (begins .numbered ∙ rw whole))
-    (subst (λ (m : List ℕ). Stands t m (keptNumbers (inside t) (replicate 14 0)) all′) (sym (begins .counted ∙ rw whole)) keeps) in
+    (subst (λ (m : List ℕ). Stands t m (keptNumbers (liveIn t) (replicate 14 0)) all′) (sym (begins .counted ∙ rw whole)) keeps) in
     (begins .answered ∙ rw whole, spoken t counters′ counters″ numbers′ numbers″ all′ all″ cs sane stands calls)

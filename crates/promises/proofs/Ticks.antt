@@ -14,7 +14,7 @@ use Rattle.timers.proofs.Laws.{beats-more, beats-none, turned-more, turned-none
 use Rattle.units.specs.Units.{percentOf}
 use Rattle.units.specs.declared.Percent.{Percent}
 use Rattle.units.specs.declared.Step.{Step}
-use Rattle.vault.specs.Job.{Switch, became, change, changed, nothing, settled, switch}
+use Rattle.vault.specs.Job.{Switch, became, change, changed, nothing, settled, switch, over, followed}
 use Rattle.vault.specs.Machine.{Throughout, run, transcript}
 use Rattle.vault.specs.Product
 use Rattle.vault.specs.Product.{machine}
@@ -27,11 +27,12 @@ use Rattle.lamp.specs.Lamp.{nextLamp}
 use Rattle.lamp.specs.Promises.{lampSkip}
 use Rattle.lamp.specs.declared.Lamp.{Lamp}
 use Rattle.lamp.proofs.Laws.{output-plain, skip-more, skip-none}
-use Rattle.paddle.specs.Paddle.{down, freshPaddle, gesture, nextPaddle, completesNothing}
-use Rattle.paddle.specs.Promises.{due, raised, paddleSkip, paddleTicks, wait, waitFor}
+use Rattle.paddle.specs.Paddle.{down, freshPaddle, gesture, nextPaddle}
+use Rattle.paddle.specs.Promises.{raised, paddleSkip, paddleTicks, wait, waitFor}
 use Rattle.paddle.specs.declared.Gesture.the-variants.{Nothing}
 use Rattle.paddle.specs.declared.Paddle.{Paddle}
 use Rattle.paddle.proofs.Laws as paddle
+use Rattle.paddle.specs.Code.{completesNothing, due}
 use Rattle.registers.specs.Places.{firstPlace, savedPlace, secondPlace}
 use Rattle.registers.specs.Write.{applied, changeAt, changeOf, stored}
 use Rattle.registers.specs.declared.write.Write.{Write}
@@ -39,7 +40,7 @@ use Rattle.registers.specs.declared.write.Write.the-variants.{Save, Nothing as 
 use Rattle.acts.specs.Core.{aged, core, saveTicks, saved, toSave}
 use Rattle.acts.specs.declared.Core.{Core}
 use Rattle.switch.specs.Switch.{Event, Plain, Shown, answerOf, answerWith, event, plain, tally, tick}
-use Rattle.switch.specs.Paddles.{after, followed, over}
+use Rattle.switch.specs.Paddles.{after}
 use Rattle.switch.specs.Events.{begun, finished, job, paddleAt, paddleOf, signalledBy, jobOfTick}
 use Rattle.switch.specs.Code.{quiet}
 use Rattle.switch.specs.Respond.{respond, wallSwitch}
@@ -139,8 +140,8 @@ unfoldable pub registersAfter : ℕ → Plain → List ℕ
 registersAfter zero p = p .registers
 registersAfter (suc n) p = applied (toSave (aged (coreBy n (p .core)))) [] (registersAfter n p)
 
-abbrev pub plainAfter : ℕ → Plain → Plain
-plainAfter n p = plain (registersAfter n p) (coreBy n (p .core)) (map (paddleTicks n) (p .paddles))
+abbrev pub plainTicked : ℕ → Plain → Plain
+plainTicked n p = plain (registersAfter n p) (coreBy n (p .core)) (map (paddleTicks n) (p .paddles))
 
 no-ticks : (ps : List Paddle) → map (paddleTicks 0) ps ≡ ps
 unfolding paddleTicks
@@ -152,13 +153,13 @@ unfolding paddleTicks
 one-more n [] = refl
 one-more n (p ∷ ps) = ap (λ (l : List Paddle). nextPaddle (paddleTicks n p) ∷ l) (one-more n ps)
 
-after-none : (p : Plain) → plainAfter 0 p ≡ p
+after-none : (p : Plain) → plainTicked 0 p ≡ p
 unfolding registersAfter
 after-none p =
     let c = p .core in
     λ i. plain (p .registers) (core (c .mode) (ticked-none (c .dimmer) i) (skip-none (c .lamp) i) (turned-none saveTicks (c .save) i)) (no-ticks (p .paddles) i)
 
-after-more : (n : ℕ) (p : Plain) → tickedPlain (plainAfter n p) ≡ plainAfter (suc n) p
+after-more : (n : ℕ) (p : Plain) → tickedPlain (plainTicked n p) ≡ plainTicked (suc n) p
 unfolding registersAfter
 after-more n p =
     let c = p .core in
@@ -169,11 +170,11 @@ after-more n p =
 abbrev pub Quiet : ℕ → List Paddle → Type 0
 Quiet n ps = (k : ℕ) → k < n → quiet (map (paddleTicks k) ps) ≡ true
 
-pub after-ticks : (n : ℕ) (s : Switch Plain) → Quiet n (s .plain .paddles) → runOf s (ticksOf n) ≡ switch (plainAfter n (s .plain)) (s .password)
+pub after-ticks : (n : ℕ) (s : Switch Plain) → Quiet n (s .plain .paddles) → runOf s (ticksOf n) ≡ switch (plainTicked n (s .plain)) (s .password)
 unfolding run ticksOf
 after-ticks zero s still = ap (λ (p : Plain). switch p (s .password)) (sym (after-none (s .plain)))
 after-ticks (suc n) s still =
-    let later : Switch Plain = switch (plainAfter n (s .plain)) (s .password) in
+    let later : Switch Plain = switch (plainTicked n (s .plain)) (s .password) in
     run-more n s
     ∙ ap (λ (t : Switch Plain). respond t (with48 tick) .next) (after-ticks n s (λ k h. still k (omega arith)))
     ∙ ap (λ a. a .next) (quiet-tick later 48 (omega arith) (still n (omega arith)))
@@ -181,10 +182,10 @@ after-ticks (suc n) s still =
 
 -- The tick after n ticks.
 pub tick-after : (n : ℕ) (s : Switch Plain) → Quiet (suc n) (s .plain .paddles)
-    → respond (runOf s (ticksOf n)) (with48 tick) ≡ plainly (plainAfter (suc n) (s .plain)) (s .password)
+    → respond (runOf s (ticksOf n)) (with48 tick) ≡ plainly (plainTicked (suc n) (s .plain)) (s .password)
 tick-after n s still =
     ap (λ (t : Switch Plain). respond t (with48 tick)) (after-ticks n s (λ k h. still k (omega arith)))
-    ∙ quiet-tick (switch (plainAfter n (s .plain)) (s .password)) 48 (omega arith) (still n (omega arith))
+    ∙ quiet-tick (switch (plainTicked n (s .plain)) (s .password)) 48 (omega arith) (still n (omega arith))
     ∙ ap (λ (p : Plain). plainly p (s .password)) (after-more n (s .plain))
 
 -- The registers differ from those before in the saved level alone.
@@ -302,7 +303,7 @@ pub left-to-itself : LeftToItself
 left-to-itself s zero two steady silent some = absurd (omega arith)
 left-to-itself s (suc n) two steady silent some =
     nth (Shows (modeIn s) (tickedBy (suc n) (dimmerIn s) .level) []) n s
-    (plainly-shows (runOf s (ticksOf n)) (with48 tick) (plainAfter (suc n) (s .plain)) (s .password) (tick-after n s (silent-quiet (suc n) s two silent)) (no-flash (suc n) (s .plain .core .lamp) steady))
+    (plainly-shows (runOf s (ticksOf n)) (with48 tick) (plainTicked (suc n) (s .plain)) (s .password) (tick-after n s (silent-quiet (suc n) s two silent)) (no-flash (suc n) (s .plain .core .lamp) steady))
 
 -- A paddle that is up with no tap counted.
 pub untapped : (k hold gap : ℕ) → gesture (paddleTicks k (raised hold gap 0)) ≡ Nothing

@@ -19,9 +19,8 @@ use Rattle.judge.specs.declared.Order.the-variants as order
 use Rattle.post.specs.Promises.{CaseJ}
 use Rattle.switch.specs.Switch.{Plain, event, receive}
 use Rattle.switch.specs.Respond.{respond, startAnswer, startedFrom}
-use Rattle.promises.specs.Numbers.{numberAt}
-use Rattle.promises.specs.Ticking.{Accepts, AtRest, Fades, IsHold, IsNothing, IsTaps, blinks, coloursOf, dimmerBy, dimmerIn, levelIn, modeIn}
-unfoldable pub use Rattle.promises.specs.Ticking.{paddleAfter, pressOf, runOf, ticksOf, with48}
+use Rattle.promises.specs.Numbers.{Asks, numberAt}
+use Rattle.promises.specs.Ticking.{AtRest, Fades, IsHold, IsNothing, IsTaps, blinks, coloursOf, dimmerBy, dimmerIn, levelIn, modeIn, pressOf, ticksOf}
 
 -- The switch of its first sentence.
 pub record Bench (s : Switch Plain) : Type 0 where
@@ -104,11 +103,11 @@ pub record Cases : Type 0 where
       → IsTaps 2 contact s (pressOf 60 contact ++ (ticksOf 179 ++ pressOf 60 contact))
   -- (h): from 0 to 50 percent at rate 4 a fade takes 600 ticks, 6 for each step; from 0 to 100 at rate 15 it takes 864,000, 4,320 for each step;
   -- by whichever packet the Goto comes. There are such a switch and such packets.
-  pub h-half : (s : Switch Plain) (room : ℕ) (bytes : List ℕ) → 48 ≤ room → Dark s → Accepts s bytes (order.Goto 50 4)
+  pub h-half : (s : Switch Plain) (room : ℕ) (bytes : List ℕ) → 48 ≤ room → Dark s → Asks s bytes (order.Goto 50 4)
       → Fades s (event room (receive bytes)) 6 600 (step 100)
-  pub h-full : (s : Switch Plain) (room : ℕ) (bytes : List ℕ) → 48 ≤ room → Dark s → Accepts s bytes (order.Goto 100 15)
+  pub h-full : (s : Switch Plain) (room : ℕ) (bytes : List ℕ) → 48 ≤ room → Dark s → Asks s bytes (order.Goto 100 15)
       → Fades s (event room (receive bytes)) 4320 864000 full
-  pub h-there : Dark (startedFrom darkImage) × (Accepts (startedFrom darkImage) packetHalf (order.Goto 50 4) × Accepts (startedFrom darkImage) packetFull (order.Goto 100 15))
+  pub h-there : Dark (startedFrom darkImage) × (Asks (startedFrom darkImage) packetHalf (order.Goto 50 4) × Asks (startedFrom darkImage) packetFull (order.Goto 100 15))
   -- (i): where the low four bits of register 0x0B are 2, the answer of the start and those of the 479 ticks after it show red, red, green and
   -- red, each for 60 and then black for 60.
   pub i : (image : List ℕ) → length image ≡ size → getD image 0x0B 0 % 16 ≡ 2

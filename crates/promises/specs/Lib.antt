@@ -11,3 +11,4 @@ pub mod Alters
 pub mod Passing
 pub mod Presets
 pub mod Clock
+pub mod Roof

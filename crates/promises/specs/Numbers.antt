@@ -21,8 +21,9 @@ use Rattle.vault.specs.declared.Password.{Password}
 use Rattle.post.specs.Post.{placed}
 use Rattle.registers.specs.Places.{size}
 use Rattle.switch.specs.Switch.{Deed, Event, Plain, answerOf, event, plain, press, receive, release, restart, tick}
-use Rattle.switch.specs.Events.{kindOf, paddleAt, signalled}
+use Rattle.switch.specs.Events.{kindOf, paddleAt}
 use Rattle.switch.specs.Respond.{respond, startAnswer}
+use Rattle.acts.specs.Core.{signalled}
 
 -- The number that a switch answers to an event, and that a start answers.
 abbrev pub numberAt : Switch Plain → Event → ℕ

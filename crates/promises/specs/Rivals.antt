@@ -3,12 +3,11 @@ use mathlib.Core.List.{List, []}
 use mathlib.Core.Path.{_≡_}
 use Prim.Native.Nat.{ℕ, zero, suc}
 use lib.ListN.{length}
-use Rattle.vault.specs.Job.{Switch}
 use Rattle.vault.specs.Machine.{run}
 use Rattle.vault.specs.Product.{machine}
 use Rattle.post.specs.Post.{placed}
 use Rattle.registers.specs.Places.{size}
-use Rattle.switch.specs.Switch.{Deed, Event, Plain, answerWith, event, held, tally}
+use Rattle.switch.specs.Switch.{Deed, Event, answerWith, event, held, tally, liveIn}
 use Rattle.switch.specs.Respond.{Responds, Starts, respond, startedFrom, wallSwitch}
 use Rattle.switch.specs.declared.Answer.{Answer}
 use Rattle.switch.specs.declared.Live.{Live}
@@ -26,10 +25,6 @@ told answer live registers buffer = record { answer = answer; live = live; regis
 -- A rival is told the event, all that the switch holds and the lent buffer; and how many events came before, which the contract does not know.
 abbrev pub Rival : Type 0
 Rival = ℕ → Deed → Live → List ℕ → List ℕ → Told
-
--- All that a switch holds besides its registers.
-abbrev pub liveOf : Switch Plain → Live
-liveOf s = record { password = s .password; core = s .plain .core; paddles = s .plain .paddles }
 
 -- The switch as it stands after so many events since a start from 256 bytes.
 pub record StoodAt (before : ℕ) (live : Live) (all : List ℕ) : Type 0 where
@@ -49,7 +44,7 @@ Meets r = (before : ℕ) (deed : Deed) (live : Live) (all out : List ℕ) → St
 abbrev pub honest : Rival
 honest before deed live all out =
     let a = respond (held live all) (event (length out) deed) in
-    told (a .shown .answer) (liveOf (a .next)) (a .next .plain .registers) (placed (a .shown .sent) out)
+    told (a .shown .answer) (liveIn (a .next)) (a .next .plain .registers) (placed (a .shown .sent) out)
 
 -- "a switch that refuses everything", by whatever number
 abbrev pub refusing : ℕ → Rival

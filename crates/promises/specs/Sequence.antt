@@ -10,8 +10,8 @@ use Rattle.switch.specs.Respond.{Responds, Starts, startedFrom}
 use Rattle.switch.specs.declared.Answer.{Answer}
 use Rattle.switch.specs.declared.Live.{Live}
 use Rattle.host.specs.Host.{Begins, Speaks}
-use Rattle.host.specs.Mirror.{inNumbers, liveFrom}
-use Rattle.host.specs.declared.Answer.{Answer as Numbers}
+use Rattle.host.specs.Mirror.{inFigures, liveFrom}
+use Rattle.host.specs.declared.Figures.{Figures}
 use Rattle.promises.specs.Demand3.{Lent, afterAll, filled, seenOf}
 
 -- A call of an event function: the event with the buffer lent to it, the answer, and the buffer after it.
@@ -45,16 +45,16 @@ AfterAnyCalls =
     → (a ≡ answerOf 0 [] (startedFrom image .plain)) × Given (λ b. b) (startedFrom image) cs (held live″ all″)
 
 -- The same for the C library, which is what is shipped: a switch is its counters, its numbers and its registers.
-pub data Spoken : List ℕ → List ℕ → List ℕ → List (Call Numbers) → List ℕ → List ℕ → List ℕ → Type 0 where
+pub data Spoken : List ℕ → List ℕ → List ℕ → List (Call Figures) → List ℕ → List ℕ → List ℕ → Type 0 where
   silent : (counters numbers all : List ℕ) → Spoken counters numbers all [] counters numbers all
-  said : (c : Call Numbers) (cs : List (Call Numbers)) (counters counters′ counters″ numbers numbers′ numbers″ all all′ all″ : List ℕ)
+  said : (c : Call Figures) (cs : List (Call Figures)) (counters counters′ counters″ numbers numbers′ numbers″ all all′ all″ : List ℕ)
       → Speaks (c .lent .deed) counters numbers all (c .lent .buffer) (c .answer) counters′ numbers′ all′ (c .buffer)
       → Spoken counters′ numbers′ all′ cs counters″ numbers″ all″ → Spoken counters numbers all (c ∷ cs) counters″ numbers″ all″
 
 abbrev pub AfterAnySpoken : Type 0
 AfterAnySpoken =
-    (image counters numbers all : List ℕ) (r : Numbers) (counters′ counters″ numbers′ numbers″ all′ all″ : List ℕ) (cs : List (Call Numbers))
+    (image counters numbers all : List ℕ) (r : Figures) (counters′ counters″ numbers′ numbers″ all′ all″ : List ℕ) (cs : List (Call Figures))
     → length image ≡ size
     → Begins image counters numbers all r counters′ numbers′ all′ → Spoken counters′ numbers′ all′ cs counters″ numbers″ all″
-    → (r ≡ inNumbers (answerOf 0 [] (startedFrom image .plain)))
-    × Given inNumbers (startedFrom image) cs (held (liveFrom counters″ numbers″) all″)
+    → (r ≡ inFigures (answerOf 0 [] (startedFrom image .plain)))
+    × Given inFigures (startedFrom image) cs (held (liveFrom counters″ numbers″) all″)

@@ -18,16 +18,11 @@ use Rattle.dimmer.specs.declared.Dimmer.{Dimmer}
 use Rattle.lamp.specs.Promises.{lampSkip}
 use Rattle.lamp.specs.declared.Colour.{Colour}
 use Rattle.lamp.specs.declared.Colour.the-variants.{Black}
-use Rattle.packet.specs.Promises.{Sound}
-use Rattle.packet.specs.Reading.{messageOf}
-use Rattle.packet.specs.declared.Header.{Header}
 use Rattle.paddle.specs.Paddle.{down, gesture}
 use Rattle.paddle.specs.Promises.{paddleSkip, paddleTicks}
 use Rattle.paddle.specs.declared.Gesture.{Gesture}
 use Rattle.paddle.specs.declared.Gesture.the-variants.{Nothing, Taps, Hold, Release}
 use Rattle.paddle.specs.declared.Paddle.{Paddle}
-use Rattle.judge.specs.Promises.{Accepted}
-use Rattle.judge.specs.declared.Order.{Order}
 use Rattle.registers.specs.Write.{applied}
 use Rattle.registers.specs.declared.write.Write.the-variants.{Save}
 use Rattle.acts.specs.Core.{core, saveTicks}
@@ -187,12 +182,6 @@ pub record Fades (s : Switch Plain) (e : Event) (each total : ℕ) (target : Ste
   pub runs : (n : ℕ) → 1 ≤ n → n < total → Shows (modeIn s) (step (n / each)) [] (nthTick (respond s e .next) n)
   pub short : Shows (modeIn s) (step (target .0 - 1)) [] (nthTick (respond s e .next) (total - 1))
   pub rests : (n : ℕ) → total ≤ n → Shows (modeIn s) target [] (nthTick (respond s e .next) n)
-
--- A packet that the switch accepts as this order.
-pub record Accepts (s : Switch Plain) (bytes : List ℕ) (o : Order) : Type 0 where
-  pub header : Header
-  pub sound : Sound bytes header
-  pub accepted : Accepted o (s .plain .registers) (s .plain .core .mode) header (messageOf bytes)
 
 -- ---- colours
 

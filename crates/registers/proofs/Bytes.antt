@@ -10,10 +10,11 @@ use borrow.Author.Tests.{ltb-true}
 use Rattle.words.specs.Words.{Bytes}
 use Rattle.words.proofs.Laws.{both, cases}
 use Rattle.registers.specs.Places.{size, secret, counterPlace, levelPlace, savedPlace}
-use Rattle.registers.specs.Write.{PercentByte, applied, oneMore, factoryActions, factoryAt}
+use Rattle.registers.specs.Write.{applied, oneMore, factoryActions, factoryAt}
 use Rattle.registers.specs.Write.{factoryBy, stored, valuesBy, between}
 use Rattle.registers.specs.declared.write.Write.{Write}
 use Rattle.registers.specs.declared.write.Write.the-variants.{Nothing, Count, Save, Preset, Factory, Values}
+use Rattle.registers.specs.Code.{PercentByte}
 
 -- One byte set, and one stored.
 set-bytes : (l : List ℕ) (i value : ℕ) → Bytes l → value < 256 → Bytes (set l i value)

@@ -8,9 +8,10 @@ use lib.Dec.{eqb}
 use borrow.Author.Tests.{eqb-true, eqb-false}
 use Rattle.words.proofs.Laws.{three-ways, two-ways}
 use Rattle.registers.specs.Places.{components, linkOf}
-use Rattle.registers.specs.Registers.{valid, seek, found, FirstWith, NoneWith}
+use Rattle.registers.specs.Registers.{valid, seek, found}
 use Rattle.registers.specs.declared.Found.{Found}
 use Rattle.registers.specs.declared.Found.the-variants.{At, Nowhere}
+use Rattle.registers.specs.Code.{FirstWith, NoneWith}
 
 -- No component from the i-th on and below the k-th has the link.
 abbrev NoneFrom : List ℕ → ℕ → ℕ → ℕ → Type 0

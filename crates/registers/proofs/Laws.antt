@@ -14,11 +14,12 @@ use Rattle.words.specs.Words.{Bytes}
 use Rattle.words.proofs.Laws.{both, cases, neither, two-ways}
 use Rattle.vault.specs.declared.Password.{Password}
 use Rattle.registers.specs.Places.{size, firstPlace, secondPlace, secret}
-use Rattle.registers.specs.Registers.{passwordIn, apart, imageOf, Dead, takenOf, afterTaking, Took, numberTaken, TakenExactly, firstSeen, secondSeen, readAt, rangeOf}
+use Rattle.registers.specs.Registers.{passwordIn, apart, imageOf, Dead, numberTaken, firstSeen, secondSeen, readAt, rangeOf}
 use Rattle.registers.specs.declared.Seen.{Seen}
 use Rattle.registers.specs.declared.Seen.the-variants.{Hidden, Shown}
 use Rattle.registers.specs.declared.Taken.{Taken}
 use Rattle.registers.specs.declared.Taken.the-variants.{Apart, Refused}
+use Rattle.registers.specs.Code.{takenOf, afterTaking, Took, TakenExactly}
 
 -- Taken apart and put back, an image is as it was.
 pub apart-back : (image : List ℕ) → imageOf (apart image) (passwordIn image) ≡ image

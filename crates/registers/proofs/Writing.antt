@@ -12,18 +12,19 @@ use borrow.Author.Tests.{eqb-true, eqb-false, ne-eqb, lt-ltb, le-ltb, le-leb, lt
 use Rattle.words.proofs.Laws.{both, cases, neither, two-ways}
 use Rattle.units.specs.declared.Percent.{Percent}
 use Rattle.vault.specs.Job.{became, change, changed, kept, nothing}
-use Rattle.vault.specs.Product.{Whole}
 use Rattle.vault.specs.Vault.{password}
 use Rattle.vault.specs.declared.Password.{Password}
+use Rattle.vault.specs.Code.{Whole}
 use Rattle.registers.specs.Places.{size, firstPlace, secondPlace, secret, componentIn, counterPlace, levelPlace, savedIn, savedPlace}
 use Rattle.registers.specs.Registers.{Dead, imageOf, passwordIn}
 use Rattle.registers.specs.Write.{applied, byteAfter, byteOf, byteSet, changeAt, changeOf, oneMore, factoryAt}
-use Rattle.registers.specs.Write.{factoryBy, sets, stored, touches, valuesBy, between}
+use Rattle.registers.specs.Write.{factoryBy, sets, stored, valuesBy, between}
 use Rattle.registers.specs.declared.places.Counter.{Counter}
 use Rattle.registers.specs.declared.places.Counter.the-variants.{Setups, Restarts}
 use Rattle.registers.specs.declared.write.Write.{Write}
 use Rattle.registers.specs.declared.write.Write.the-variants.{Nothing, Count, Save, Preset, Factory, Values}
 use Rattle.registers.proofs.Laws.{by-secret, image-other, password-back}
+use Rattle.registers.specs.Code.{touches}
 
 -- Both counters stand among the 256 registers, and neither is the password's.
 pub counter-within : (counter : Counter) → counterPlace counter < size

@@ -1,3 +1,4 @@
 pub mod Places
 pub mod Registers
 pub mod Write
+pub mod Code

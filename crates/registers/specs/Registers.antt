@@ -2,10 +2,9 @@
 use mathlib.Core.Path.{_≡_}
 use mathlib.Core.Bool.{Bool, _&&_}
 use mathlib.Core.List.{List, [], _∷_}
-use mathlib.Core.Logic.{_↔_}
-use Prim.Native.Nat.{ℕ, zero, suc, _+_, _<_}
+use Prim.Native.Nat.{ℕ, zero, suc, _+_}
 use lib.Dec.{ltb, eqb}
-use lib.ListN.{length, getD, set}
+use lib.ListN.{getD, set}
 use Rattle.words.specs.Words.{if_then_else_}
 use Rattle.vault.specs.Vault.{password}
 use Rattle.vault.specs.declared.Password.{Password}
@@ -32,26 +31,10 @@ imageOf all w = set (set all firstPlace (w .0)) secondPlace (w .1)
 abbrev pub Dead : List ℕ → Type 0
 Dead all = (getD all firstPlace 0 ≡ 0) × (getD all secondPlace 0 ≡ 0)
 
--- "A switch starts from a copy of a lent image of 256 register bytes." Refused, the registers keep their bytes.
-unfoldable pub takenOf : List ℕ → Taken
-takenOf image = if eqb (length image) size then Apart (passwordIn image) else Refused
-
-unfoldable pub afterTaking : List ℕ → List ℕ → List ℕ
-afterTaking image all = if eqb (length image) size then apart image else all
-
-pub record Took (image before : List ℕ) (answer : Taken) (after : List ℕ) : Type 0 where
-  pub answered : answer ≡ takenOf image
-  pub registers : after ≡ afterTaking image before
-
 -- the number of each answer
 abbrev pub numberTaken : Taken → ℕ
 numberTaken (Apart w) = 0
 numberTaken Refused = 1
-
--- "1: image is not 256 bytes"; else it is taken.
-pub record TakenExactly : Type 0 where
-  pub taken : (image : List ℕ) → (numberTaken (takenOf image) ≡ 0) ↔ (length image ≡ size)
-  pub refused : (image : List ℕ) → (numberTaken (takenOf image) ≡ 1) ↔ (length image ≡ size → ⊥)
 
 -- "Outside Setup, Get Registers sends 0 for 0x02 and 0x03": a place read without the password, or with it.
 unfoldable pub firstSeen : Seen → ℕ
@@ -91,10 +74,3 @@ seek all link i (suc n) = if eqb (linkOf all i) link then At i else seek all lin
 
 unfoldable pub found : List ℕ → ℕ → Found
 found all link = if valid link then seek all link 0 components else Nowhere
-
--- Component i is the first of the sixteen with this link; none of the sixteen has it.
-abbrev pub FirstWith : List ℕ → ℕ → ℕ → Type 0
-FirstWith all link i = (i < components) × ((linkOf all i ≡ link) × ((j : ℕ) → j < i → linkOf all j ≡ link → ⊥))
-
-abbrev pub NoneWith : List ℕ → ℕ → Type 0
-NoneWith all link = (j : ℕ) → j < components → linkOf all j ≡ link → ⊥

@@ -1,7 +1,7 @@
 -- All that may be written, and the one definition that writes it.
 use mathlib.Core.Bool.{Bool, false, _&&_, _||_}
 use mathlib.Core.List.{List, [], _∷_}
-use Prim.Native.Nat.{ℕ, zero, suc, _+_, _-_, _<_}
+use Prim.Native.Nat.{ℕ, zero, suc, _+_, _-_}
 use lib.Dec.{ltb, leb, eqb}
 use lib.ListN.{length, getD, set}
 use Rattle.words.specs.Words.{if_then_else_}
@@ -98,16 +98,3 @@ byteSet (Values first) values place old = getD values (place - first) 0
 -- The byte of a place after a write, from the one before it.
 unfoldable pub byteAfter : Write → List ℕ → ℕ → ℕ → ℕ
 byteAfter write values place old = if sets write (length values) place then byteSet write values place old else old
-
--- The same of the array without the password: its two places are never touched.
-unfoldable pub touches : Write → ℕ → ℕ → Bool
-touches write count place = if secret place then false else sets write count place
-
--- The percents that a write holds are bytes.
-abbrev pub PercentByte : Write → Type 0
-PercentByte Nothing = Unit {0}
-PercentByte (Count counter) = Unit {0}
-PercentByte (Save percent) = percent .0 < 256
-PercentByte (Preset component percent) = percent .0 < 256
-PercentByte Factory = Unit {0}
-PercentByte (Values first) = Unit {0}

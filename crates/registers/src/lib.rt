@@ -1,7 +1,8 @@
 // The 256 registers, with the password held apart from them: the bytes at 0x02 and 0x03 are dead.
 ghost use mathlib.Core.Path.{_≡_};
 ghost use lib.ListN.{length};
-ghost use Rattle.registers.specs.Registers.{Took, imageOf, rangeOf, heldAt, masked, firstSeen, secondSeen, found, numberTaken, valid};
+ghost use Rattle.registers.specs.Registers.{imageOf, rangeOf, heldAt, masked, firstSeen, secondSeen, found, numberTaken, valid};
+ghost use Rattle.registers.specs.Code.{Took};
 use vault::Password;
 
 pub mod places;

@@ -16,8 +16,8 @@ use Rattle.registers.specs.declared.write.Write.{Write}
 use Rattle.acts.specs.Core.{aged, saved, toSave}
 use Rattle.acts.specs.declared.Core.{Core}
 use Rattle.acts.specs.declared.Effect.{Effect}
-use Rattle.post.specs.Post.{sentOf}
 use Rattle.post.specs.declared.Note.{Note}
+use Rattle.post.specs.Code.{sentOf}
 use Rattle.switch.specs.Switch.{Deed, release, tick, event, held, plain, tally, answerWith, answerOf}
 use Rattle.switch.specs.Paddles.{Moment, moment, after, turned, turns}
 use Rattle.switch.specs.Events.{job, jobOfDeed, paddleOf, releasedAt, gestureAt, jobOfRelease, jobOfTick, finished, signalledBy}

@@ -4,7 +4,7 @@ use mathlib.Core.List.{List, []}
 use Prim.Native.Nat.{ℕ, _<_, _≤_}
 use lib.ListN.{length}
 use borrow.Author.Tests.{lt-ltb, le-ltb}
-use Rattle.vault.specs.Job.{Change, Switch, changed, became, done, nothing, outcome, settled, switch}
+use Rattle.vault.specs.Job.{Change, changed, became, done, nothing, outcome, settled, switch}
 use Rattle.vault.specs.Product
 use Rattle.paddle.specs.declared.Paddle.{Paddle}
 use Rattle.post.specs.Post.{placed}
@@ -14,7 +14,7 @@ use Rattle.switch.specs.Respond.{Responds}
 use Rattle.switch.specs.Code.{refusedWith}
 use Rattle.switch.specs.declared.Answer.{Answer}
 use Rattle.switch.specs.declared.Live.{Live}
-use Rattle.switch.specs.declared.Outcome.{Outcome}
+use Rattle.switch.specs.declared.Handed.{Handed}
 
 -- "2: buffer shorter than 48", and what is asked where it is not.
 pub no-room : (p : Plain) (room : ℕ) (deed : Deed) → room < 48 → job p (event room deed) ≡ done (refused 2 p) nothing
@@ -49,7 +49,7 @@ module _ (deed : Deed) (live : Live) (all out : List ℕ) where
 
   -- A refusal leaves everything as it was.
   pub responds-refused :
-      (number : ℕ) (r : Outcome)
+      (number : ℕ) (r : Handed)
       → job (held live all .plain) (event (length out) deed) ≡ done (refused number (held live all .plain)) nothing
       → r ≡ refusedWith number live all
       → Responds deed live all out (r .answer) (r .live) all out
@@ -61,12 +61,12 @@ module _ (deed : Deed) (live : Live) (all out : List ℕ) where
         bytes = rw e;
       }
 
-  pub responds-short : (r : Outcome) → length out < 48 → r ≡ refusedWith 2 live all → Responds deed live all out (r .answer) (r .live) all out
+  pub responds-short : (r : Handed) → length out < 48 → r ≡ refusedWith 2 live all → Responds deed live all out (r .answer) (r .live) all out
   responds-short r h f = responds-refused 2 r (no-room (held live all .plain) (length out) deed h) f
 
 -- An edge of a contact that there is not.
 pub press-unknown :
-    (contact : ℕ) (live : Live) (all out : List ℕ) (r : Outcome) → 48 ≤ length out → 3 < contact → r ≡ refusedWith 3 live all
+    (contact : ℕ) (live : Live) (all out : List ℕ) (r : Handed) → 48 ≤ length out → 3 < contact → r ≡ refusedWith 3 live all
     → Responds (press contact) live all out (r .answer) (r .live) all out
 unfolding jobOfDeed
 press-unknown contact live all out r h k f =
@@ -74,7 +74,7 @@ press-unknown contact live all out r h k f =
     (enough-room (held live all .plain) (length out) (press contact) h ∙ unknown contact (jobOfPress contact) (held live all .plain) k) f
 
 pub release-unknown :
-    (contact : ℕ) (live : Live) (all out : List ℕ) (r : Outcome) → 48 ≤ length out → 3 < contact → r ≡ refusedWith 3 live all
+    (contact : ℕ) (live : Live) (all out : List ℕ) (r : Handed) → 48 ≤ length out → 3 < contact → r ≡ refusedWith 3 live all
     → Responds (release contact) live all out (r .answer) (r .live) all out
 unfolding jobOfDeed
 release-unknown contact live all out r h k f =

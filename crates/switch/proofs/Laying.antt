@@ -9,11 +9,12 @@ use Rattle.words.proofs.Laws.{one-outcome}
 use Rattle.packet.specs.Layout.{packed}
 use Rattle.packet.specs.declared.Header.{Header}
 use Rattle.packet.proofs.Laws.{packed-length}
-use Rattle.post.specs.Post.{enveloped, bytesOf, noNote, noteHeader, sentOf, front, Laid}
+use Rattle.post.specs.Post.{enveloped, bytesOf}
 use Rattle.post.specs.declared.Note.{Note}
 use Rattle.post.proofs.Laws.{note-fits, laid-fits, laid-keeps, laid-at, note-placed, laid-again, laid-after}
-use Rattle.switch.specs.Switch.{tally, added}
-use Rattle.switch.specs.Code.{noted, Sends}
+use Rattle.post.specs.Code.{noNote, noteHeader, sentOf, front, Laid}
+use Rattle.switch.specs.Switch.{tally}
+use Rattle.switch.specs.Code.{noted, Sends, added}
 use Rattle.switch.specs.declared.Sent.{Sent}
 
 -- One packet more, of so many bytes; there is room for two.

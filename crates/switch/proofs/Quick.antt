@@ -12,16 +12,17 @@ use borrow.Author.Tests.{ltb-true, ne-eqb}
 use Rattle.words.proofs.Laws.{both}
 use Rattle.timers.specs.Timers.{metronome}
 use Rattle.units.specs.declared.Percent.{Percent}
-use Rattle.vault.specs.Job.{Answered, changed, became, settled, switch}
+use Rattle.vault.specs.Job.{Answered, changed, became, settled, switch, over, followed}
 use Rattle.vault.specs.Product
 use Rattle.vault.specs.declared.Mode.{Mode}
 use Rattle.vault.specs.declared.Mode.the-variants.{Normal, Setup, Factory}
 use Rattle.vault.specs.declared.Password.{Password}
-use Rattle.paddle.specs.Paddle.{freshPaddle, gesture, nextPaddle, completesNothing, turn}
+use Rattle.paddle.specs.Paddle.{freshPaddle, gesture, nextPaddle}
 use Rattle.paddle.specs.declared.Gesture.{Gesture}
 use Rattle.paddle.specs.declared.Gesture.the-variants.{Nothing, Taps, Hold, Release}
 use Rattle.paddle.specs.declared.Paddle.{Paddle}
 use Rattle.paddle.specs.declared.Turn.{Turn}
+use Rattle.paddle.specs.Code.{turn, completesNothing}
 use Rattle.registers.specs.Places.{transmitIn}
 use Rattle.registers.specs.Registers.{valid}
 use Rattle.registers.specs.Write.{applied, changeOf, changeAt}
@@ -30,7 +31,7 @@ use Rattle.acts.specs.declared.Core.{Core}
 use Rattle.acts.proofs.Laws.{nothing-acts}
 use Rattle.post.specs.Post.{announced, bytesOf, chosen, commandNumber, enveloped, gestureMessage, gestureNumber, placed}
 use Rattle.switch.specs.Switch.{Plain, Shown, plain, press, release, tick, event, shown, answerOf}
-use Rattle.switch.specs.Paddles.{Moment, after, followed, over, turned, turns}
+use Rattle.switch.specs.Paddles.{Moment, after, turned, turns}
 use Rattle.switch.specs.Events.{begun, jobOfDeed, finished, gestureAt, paddleOf, pressedAt, jobOfPress, releasedAt, jobOfRelease, signalledBy, jobOfTick}
 use Rattle.switch.specs.Code.{lived, passed, passedCore, quiet, recognised}
 use Rattle.switch.specs.Respond.{Responds, respond}

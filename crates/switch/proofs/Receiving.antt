@@ -29,21 +29,22 @@ use Rattle.judge.specs.Judge.{judged}
 use Rattle.judge.specs.declared.Order.{Order}
 use Rattle.judge.specs.declared.Order.the-variants as order
 use Rattle.judge.proofs.Order
-use Rattle.acts.specs.Core.{opened, unwritten}
+use Rattle.acts.specs.Core.{opened, unwritten, signalled}
 use Rattle.acts.specs.Orders.{performed}
 use Rattle.acts.specs.declared.Core.{Core}
 use Rattle.acts.specs.declared.Effect.{Effect}
-use Rattle.post.specs.Post.{Laid, enveloped, front, headed, place, placed, replied, replyMessage}
+use Rattle.post.specs.Post.{enveloped, headed, place, placed, replied, replyMessage}
 use Rattle.post.specs.declared.Reply.{Reply}
 use Rattle.post.specs.declared.Reply.the-variants as reply
 use Rattle.post.proofs.Laws.{laid-fits, reply-fits, reply-placed, whole-buffer}
+use Rattle.post.specs.Code.{front, Laid}
 use Rattle.registers.specs.Write.{applied, changeOf, changeAt}
 use Rattle.registers.specs.declared.Seen.{Seen}
 use Rattle.registers.specs.declared.Seen.the-variants as seen
-use Rattle.switch.specs.Switch.{Plain, plain, event, receive, held, tally, added, answerWith, answerOf}
-use Rattle.switch.specs.Events.{outcomeOf, jobOfDeed, garbled, jobOfGet, hueOf, job, plainAfter, jobOfAct, jobOfGuess, jobOfOrder, jobOfFrame, jobOfBytes, refused, replyTo, seenBy, signalled}
+use Rattle.switch.specs.Switch.{Plain, plain, event, receive, held, tally, answerWith, answerOf}
+use Rattle.switch.specs.Events.{outcomeOf, jobOfDeed, garbled, jobOfGet, hueOf, job, plainAfter, jobOfAct, jobOfGuess, jobOfOrder, jobOfFrame, jobOfBytes, refused, replyTo}
 use Rattle.switch.specs.Respond.{Responds}
-use Rattle.switch.specs.Code.{Answers, Handles, Leads, OneHandled, Orders, effectOf, garbledBy, handled, lived, unmoved, verdictOf, verdictOn}
+use Rattle.switch.specs.Code.{Answers, Handles, Leads, OneHandled, Orders, effectOf, garbledBy, handled, lived, unmoved, verdictOf, verdictOn, added, seenBy}
 use Rattle.switch.specs.declared.Answer.{Answer}
 use Rattle.switch.specs.declared.Live.{Live}
 use Rattle.switch.specs.declared.Sent.{Sent}

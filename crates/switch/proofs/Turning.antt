@@ -9,20 +9,21 @@ use lib.Seq.{drop-cons, take-all, take-suc-set}
 use Rattle.words.proofs.Laws.{one-outcome}
 use Rattle.units.specs.Units.{percentOf}
 use Rattle.units.specs.declared.Percent.{Percent}
-use Rattle.vault.specs.Job.{Byte, kept, put, became, Change, nothing, changed}
+use Rattle.vault.specs.Job.{Byte, kept, put, became, Change, nothing, changed, over, followed}
 use Rattle.vault.specs.declared.Password.{Password}
-use Rattle.paddle.specs.Paddle.{freshPaddle, gesture, nextPaddle, turn}
+use Rattle.paddle.specs.Paddle.{freshPaddle, gesture, nextPaddle}
 use Rattle.paddle.specs.declared.Gesture.{Gesture}
 use Rattle.paddle.specs.declared.Paddle.{Paddle}
 use Rattle.paddle.specs.declared.Turn.{Turn}
+use Rattle.paddle.specs.Code.{turn}
 use Rattle.registers.specs.Write.{applied, changeOf}
 use Rattle.acts.specs.Gestures.{acted}
 use Rattle.acts.specs.declared.Core.{Core}
 use Rattle.acts.specs.declared.Effect.{Effect}
-use Rattle.post.specs.Post.{noteOf, sentOf}
 use Rattle.post.specs.declared.Note.{Note}
 use Rattle.post.proofs.Laws.{note-sent}
-use Rattle.switch.specs.Paddles.{over, followed, Moment, moment, after, turned, turns}
+use Rattle.post.specs.Code.{noteOf, sentOf}
+use Rattle.switch.specs.Paddles.{Moment, moment, after, turned, turns}
 use Rattle.switch.specs.Code.{noted, Stands, Turned}
 
 -- As many as there are after each was turned into another.

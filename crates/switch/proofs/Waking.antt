@@ -16,7 +16,7 @@ use Rattle.acts.specs.declared.Core.{Core}
 use Rattle.paddle.specs.Paddle.{freshPaddle}
 use Rattle.paddle.specs.declared.Paddle.{Paddle}
 use Rattle.post.specs.Post.{placed}
-use Rattle.registers.specs.Registers.{Took, apart, numberTaken, passwordIn}
+use Rattle.registers.specs.Registers.{apart, numberTaken, passwordIn}
 use Rattle.registers.specs.Write.{applied}
 use Rattle.registers.specs.declared.Taken.{Taken}
 use Rattle.registers.specs.declared.Taken.the-variants.{Apart, Refused}
@@ -24,13 +24,14 @@ use Rattle.registers.specs.declared.places.Counter.the-variants.{Restarts}
 use Rattle.registers.specs.declared.write.Write.the-variants.{Count}
 use Rattle.registers.proofs.Laws.{image-taken, image-refused}
 use Rattle.registers.proofs.Taken.{the-type}
+use Rattle.registers.specs.Code.{Took}
 use Rattle.switch.specs.Switch.{restart, tally, answerWith, answerOf, held}
 use Rattle.switch.specs.Events.{jobOfDeed, jobOfRestart, woken}
-use Rattle.switch.specs.Respond.{Responds, Starts, noOutcome, startAnswer, startNext, startedFrom}
-use Rattle.switch.specs.Code.{Wakes}
+use Rattle.switch.specs.Respond.{Responds, Starts, startAnswer, startNext, startedFrom}
+use Rattle.switch.specs.Code.{Wakes, noOutcome}
 use Rattle.switch.specs.declared.Answer.{Answer}
 use Rattle.switch.specs.declared.Live.{Live}
-use Rattle.switch.specs.declared.Outcome.{Outcome}
+use Rattle.switch.specs.declared.Handed.{Handed}
 use Rattle.switch.specs.declared.Sent.{Sent}
 use Rattle.switch.proofs.Laws.{responds-done, enough-room}
 
@@ -77,7 +78,7 @@ starts image all all₁ taken w answer live′ all′ took e wakes = by-size (eq
         absurd (omega arith)
 
 pub starts-none :
-    (image all all₁ : List ℕ) (taken : Taken) (number : ℕ) (r : Outcome)
+    (image all all₁ : List ℕ) (taken : Taken) (number : ℕ) (r : Handed)
     → Took image all taken all₁ → taken ≡ Refused → number ≡ numberTaken taken → r ≡ noOutcome number → Starts image all (r .answer) (r .live) all₁
 unfolding startAnswer startNext
 starts-none image all all₁ taken number r took e m f = by-size (eqb (length image) 256) refl

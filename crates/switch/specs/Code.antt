@@ -11,27 +11,32 @@ use Rattle.lamp.specs.declared.Colour.the-variants.{Black, Red}
 use Rattle.vault.specs.Job.{Answered, answered, changed, settled, switch}
 use Rattle.vault.specs.Vault.{matches}
 use Rattle.vault.specs.declared.Password.{Password}
-use Rattle.paddle.specs.Paddle.{nextPaddle, gesture, completesNothing}
+use Rattle.vault.specs.declared.Mode.{Mode}
+use Rattle.vault.specs.declared.Mode.the-variants.{Normal, Setup, Factory}
+use Rattle.paddle.specs.Paddle.{nextPaddle, gesture}
 use Rattle.paddle.specs.declared.Gesture.{Gesture}
 use Rattle.paddle.specs.declared.Paddle.{Paddle}
-use Rattle.acts.specs.Core.{aged, core, opened}
+use Rattle.paddle.specs.Code.{completesNothing}
+use Rattle.acts.specs.Core.{aged, core, opened, signalled}
 use Rattle.acts.specs.Orders.{performed}
 use Rattle.acts.specs.declared.Core.{Core}
 use Rattle.acts.specs.declared.Effect.{Effect}
-use Rattle.post.specs.Post.{sentOf, placed}
+use Rattle.post.specs.Post.{placed}
 use Rattle.post.specs.declared.Note.{Note}
 use Rattle.post.specs.declared.Reply.{Reply}
+use Rattle.post.specs.Code.{sentOf}
 use Rattle.registers.specs.Write.{changeOf}
 use Rattle.registers.specs.declared.Seen.{Seen}
+use Rattle.registers.specs.declared.Seen.the-variants as seen
 use Rattle.judge.specs.declared.Order.{Order}
 use Rattle.judge.specs.declared.Order.the-variants as order
 use Rattle.switch.specs.Switch.{Plain, Shown, plain, event, receive, held, tally, answerWith, answerOf}
 use Rattle.switch.specs.Paddles.{Moment}
-use Rattle.switch.specs.Events.{outcomeOf, jobOfOrder, signalled, woken}
-use Rattle.switch.specs.Respond.{respond}
+use Rattle.switch.specs.Events.{outcomeOf, jobOfOrder, woken}
+use Rattle.switch.specs.Respond.{respond, nobody, noAnswer}
 use Rattle.switch.specs.declared.Answer.{Answer}
 use Rattle.switch.specs.declared.Live.{Live}
-use Rattle.switch.specs.declared.Outcome.{Outcome}
+use Rattle.switch.specs.declared.Handed.{Handed}
 use Rattle.switch.specs.declared.Sent.{Sent}
 use Rattle.switch.specs.declared.edges.Edge.{Edge}
 use Rattle.switch.specs.declared.paddles.Recognised.{Recognised}
@@ -41,7 +46,7 @@ use Rattle.switch.specs.declared.receive.Verdict.the-variants.{Stop, Go}
 use Rattle.switch.specs.declared.tick.Passed.{Passed}
 
 -- An event that is refused: the switch is shown as it stands, and stays so.
-unfoldable pub refusedWith : ℕ → Live → List ℕ → Outcome
+unfoldable pub refusedWith : ℕ → Live → List ℕ → Handed
 refusedWith number live all = record { answer = answerWith number (tally []) all (live .core); live = live }
 
 -- A switch in parts.
@@ -165,3 +170,19 @@ passedCore c = core (aged c .mode) (aged c .dimmer) (aged c .lamp) (less (c .sav
 
 unfoldable pub passed : List ℕ → Core → Passed
 passed all c = record { answer = answerWith 0 (tally []) all (passedCore c); core = passedCore c }
+
+-- One packet more of so many bytes; one of no bytes is none.
+unfoldable pub added : Sent → ℕ → Sent
+added s size =
+    if eqb size 0 then s
+    else if eqb (s .count) 0 then record { count = 1; first = size; second = s .second }
+    else record { count = 2; first = s .first; second = size }
+
+-- "Outside Setup, Get Registers sends 0 for 0x02 and 0x03."
+unfoldable pub seenBy : Mode → Password → Seen
+seenBy Normal w = seen.Hidden
+seenBy Setup w = seen.Shown w
+seenBy Factory w = seen.Hidden
+
+abbrev pub noOutcome : ℕ → Handed
+noOutcome number = record { answer = noAnswer number; live = nobody }

@@ -7,10 +7,7 @@ use Rattle.words.specs.Words.{if_then_else_}
 use Rattle.units.specs.Units.{percentOf}
 use Rattle.vault.specs.Job.{Job, Outcome, compare, done, nothing, outcome, reveal}
 use Rattle.vault.specs.Vault.{inSetup}
-use Rattle.vault.specs.declared.Mode.{Mode}
-use Rattle.vault.specs.declared.Mode.the-variants.{Normal, Setup, Factory}
 use Rattle.vault.specs.declared.Password.{Password}
-use Rattle.lamp.specs.Lamp.{signalSet}
 use Rattle.lamp.specs.declared.Colour.{Colour}
 use Rattle.lamp.specs.declared.Colour.the-variants.{Black, Red, Green}
 use Rattle.packet.specs.Reading.{readOf, numberOfFrame, messageOf}
@@ -29,7 +26,7 @@ use Rattle.registers.specs.declared.write.Write.the-variants.{Count}
 use Rattle.judge.specs.Judge.{judged}
 use Rattle.judge.specs.declared.Order.{Order}
 use Rattle.judge.specs.declared.Order.the-variants as order
-use Rattle.acts.specs.Core.{core, started, aged, saved, opened}
+use Rattle.acts.specs.Core.{core, started, aged, saved, opened, signalled}
 use Rattle.acts.specs.Orders.{performed}
 use Rattle.acts.specs.declared.Core.{Core}
 use Rattle.acts.specs.declared.Effect.{Effect}
@@ -45,10 +42,6 @@ SwitchJob = Job Plain Shown
 -- "On a refusal count and lengths are 0 and the rest shows the switch as it stands."
 unfoldable pub refused : ℕ → Plain → Outcome Plain Shown
 refused number p = outcome (shown number [] p) p
-
--- The lamp's 30-tick blink.
-unfoldable pub signalled : Colour → Core → Core
-signalled hue c = core (c .mode) (c .dimmer) (signalSet hue (c .lamp)) (c .save)
 
 -- "red on sending": edges and ticks blink in no other colour.
 unfoldable pub signalledBy : List (List ℕ) → Core → Core
@@ -141,12 +134,6 @@ outcomeOf e values source r p s =
 unfoldable pub jobOfGuess : Password → Plain → SwitchJob
 jobOfGuess guess p =
     compare guess (outcomeOf (opened (p .core)) [] 0 reply.Silence p seen.Hidden) (refused 14 p)
-
--- "Outside Setup, Get Registers sends 0 for 0x02 and 0x03."
-unfoldable pub seenBy : Mode → Password → Seen
-seenBy Normal w = seen.Hidden
-seenBy Setup w = seen.Shown w
-seenBy Factory w = seen.Hidden
 
 -- Get Registers: in Setup it shows the password, elsewhere 0 in its place.
 unfoldable pub jobOfGet : ℕ → ℕ → ℕ → Plain → SwitchJob

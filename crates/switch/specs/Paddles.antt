@@ -2,24 +2,15 @@
 use mathlib.Core.List.{List, [], _∷_, _++_}
 use Prim.Native.Nat.{ℕ, _+_}
 use Rattle.units.specs.Units.{percentOf}
-use Rattle.vault.specs.Job.{Byte, kept, put, Change, change}
+use Rattle.vault.specs.Job.{Change, change, followed}
 use Rattle.paddle.specs.Paddle.{gesture}
 use Rattle.paddle.specs.declared.Gesture.{Gesture}
 use Rattle.paddle.specs.declared.Paddle.{Paddle}
 use Rattle.registers.specs.Write.{applied, changeOf}
-use Rattle.registers.specs.declared.write.Write.{Write}
 use Rattle.acts.specs.Gestures.{acted}
 use Rattle.acts.specs.declared.Core.{Core}
 use Rattle.acts.specs.declared.Effect.{Effect}
 use Rattle.post.specs.Post.{announced}
-
--- One change of the password after another.
-unfoldable pub over : Byte → Byte → Byte
-over before kept = before
-over before (put b) = put b
-
-unfoldable pub followed : Change → Change → Change
-followed before after = change (over (before .first) (after .first)) (over (before .second) (after .second))
 
 -- The switch in the middle of an event: registers and core as they now stand, what was sent so far, and what became of the password.
 pub record Moment : Type 0 where

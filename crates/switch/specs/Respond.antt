@@ -23,7 +23,6 @@ use Rattle.switch.specs.Switch.{Plain, Shown, Event, Deed, event, held, 
 use Rattle.switch.specs.Events.{job, woken}
 use Rattle.switch.specs.declared.Answer.{Answer}
 use Rattle.switch.specs.declared.Live.{Live}
-use Rattle.switch.specs.declared.Outcome.{Outcome}
 
 -- The wall switch as a product of the vault: its theory of secrecy speaks of this.
 abbrev pub wallSwitch : Product
@@ -55,9 +54,6 @@ nobody = record { password = password 0 0; core = core Normal (freshDimmer off) 
 
 abbrev pub noAnswer : ℕ → Answer
 noAnswer number = record { number = number; sent = tally []; level = off; output = off; colour = Black; mode = Normal }
-
-abbrev pub noOutcome : ℕ → Outcome
-noOutcome number = record { answer = noAnswer number; live = nobody }
 
 abbrev pub whole : List ℕ → Bool
 whole image = eqb (length image) 256

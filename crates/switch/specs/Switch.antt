@@ -1,9 +1,7 @@
 -- What a switch holds, what happens to it, and what it answers, as document 01 has it under "Events and time".
 use mathlib.Core.List.{List, [], _∷_}
 use Prim.Native.Nat.{ℕ}
-use lib.Dec.{eqb}
 use lib.ListN.{length, getD}
-use Rattle.words.specs.Words.{if_then_else_}
 use Rattle.lamp.specs.Lamp.{colour, output}
 use Rattle.paddle.specs.Paddle.{freshPaddle}
 use Rattle.paddle.specs.declared.Paddle.{Paddle}
@@ -32,6 +30,10 @@ freshPaddles = freshPaddle ∷ freshPaddle ∷ []
 abbrev pub held : Live → List ℕ → Switch Plain
 held live all = switch (plain all (live .core) (live .paddles)) (live .password)
 
+-- All that it holds besides its registers.
+abbrev pub liveIn : Switch Plain → Live
+liveIn s = record { password = s .password; core = s .plain .core; paddles = s .plain .paddles }
+
 -- "Events: a press or release edge of contact 0 local top, 1 local bottom, 2 slave top, 3 slave bottom; one tick; a received packet; a restart."
 pub data Deed : Type 0 where
   press : ℕ → Deed
@@ -51,13 +53,6 @@ event room deed = record { room = room; deed = deed }
 -- "The answer holds a number, the count of packets sent (0 to 2) with each length, level and output in steps, lamp colour and mode."
 unfoldable pub tally : List (List ℕ) → Sent
 tally sent = record { count = length sent; first = length (getD sent 0 []); second = length (getD sent 1 []) }
-
--- One packet more of so many bytes; one of no bytes is none.
-unfoldable pub added : Sent → ℕ → Sent
-added s size =
-    if eqb size 0 then s
-    else if eqb (s .count) 0 then record { count = 1; first = size; second = s .second }
-    else record { count = 2; first = s .first; second = size }
 
 unfoldable pub answerWith : ℕ → Sent → List ℕ → Core → Answer
 answerWith number sent all c =

@@ -4,8 +4,8 @@ ghost use Rattle.switch.specs.Switch.{press, release};
 ghost use Rattle.switch.specs.Events.{kindOf, pressedAt, releasedAt, gestureAt};
 ghost use Rattle.switch.specs.Code.{edge, refusedWith};
 ghost use Rattle.switch.specs.Respond.{Responds};
+use crate::Handed;
 use crate::Live;
-use crate::Outcome;
 use crate::ROOM;
 use crate::Sent;
 use crate::paddles;
@@ -24,7 +24,7 @@ pub struct Edge {
     pub gesture: Gesture,
 }
 
-pub fn press(live: Live, all: &mut [u8; 256], contact: u8, out: &mut [u8]) -> Outcome
+pub fn press(live: Live, all: &mut [u8; 256], contact: u8, out: &mut [u8]) -> Handed
     ensures { λ r. ⌜ Responds (press contact) live (now (all .entry)) (now (out .entry)) (r .answer) (r .live) (now (all .exit)) (now (out .exit)) ⌝ }
 {
     if out.len() < ROOM {
@@ -37,7 +37,7 @@ pub fn press(live: Live, all: &mut [u8; 256], contact: u8, out: &mut [u8]) -> Ou
     let core = live.core;
     let before = live.paddles;
     let paddles = lower(contact, before);
-    Outcome {
+    Handed {
         answer: show(core, all, 0, Sent::none()),
         live: Live {
             password,
@@ -47,7 +47,7 @@ pub fn press(live: Live, all: &mut [u8; 256], contact: u8, out: &mut [u8]) -> Ou
     }
 }
 
-pub fn release(live: Live, all: &mut [u8; 256], contact: u8, out: &mut [u8]) -> Outcome
+pub fn release(live: Live, all: &mut [u8; 256], contact: u8, out: &mut [u8]) -> Handed
     ensures { λ r. ⌜ Responds (release contact) live (now (all .entry)) (now (out .entry)) (r .answer) (r .live) (now (all .exit)) (now (out .exit)) ⌝ }
 {
     if out.len() < ROOM {
@@ -67,7 +67,7 @@ pub fn release(live: Live, all: &mut [u8; 256], contact: u8, out: &mut [u8]) -> 
     let next = signalled_on(after.core, sent);
     let next_password = after.password;
     let next_paddles = edge.paddles;
-    Outcome {
+    Handed {
         answer: show(next, all, 0, sent),
         live: Live {
             password: next_password,
@@ -110,11 +110,11 @@ pub fn kind(contact: u8) -> Contact
     Contact::Slave
 }
 
-pub(crate) fn refused(live: Live, all: &[u8; 256], number: u8) -> Outcome
+pub(crate) fn refused(live: Live, all: &[u8; 256], number: u8) -> Handed
     ensures { λ r. ⌜ r ≡ refusedWith number live (now (all .entry)) ⌝ }
 {
     let core = live.core;
-    Outcome {
+    Handed {
         answer: show(core, all, number, Sent::none()),
         live,
     }

@@ -2,9 +2,8 @@
 // that the switch holds goes in by value and comes back.
 ghost use mathlib.Core.Path.{_≡_};
 ghost use mathlib.Core.List.{[]};
-ghost use Rattle.switch.specs.Switch.{tally, added, answerWith};
-ghost use Rattle.switch.specs.Events.{signalled};
-ghost use Rattle.switch.specs.Code.{signalledOn};
+ghost use Rattle.switch.specs.Switch.{tally, answerWith};
+ghost use Rattle.switch.specs.Code.{signalledOn, added};
 use acts::Core;
 use lamp::Colour;
 use paddle::Paddle;
@@ -45,7 +44,7 @@ pub struct Answer {
 }
 
 // The answer to an event, and the switch after it.
-pub struct Outcome {
+pub struct Handed {
     pub answer: Answer,
     pub live: Live,
 }
@@ -103,15 +102,6 @@ pub fn show(core: Core, all: &[u8; 256], number: u8, sent: Sent) -> Answer
     }
 }
 
-// The lamp's blink.
-fn signalled(core: Core, hue: Colour) -> Core
-    ensures { λ r. ⌜ r ≡ signalled hue core ⌝ }
-{
-    let mut next = core;
-    next.lamp = core.lamp.blinked(hue);
-    next
-}
-
 // Red on sending: edges and ticks blink in no other colour.
 fn signalled_on(core: Core, sent: Sent) -> Core
     ensures { λ r. ⌜ r ≡ signalledOn (sent .count) core ⌝ }
@@ -119,5 +109,5 @@ fn signalled_on(core: Core, sent: Sent) -> Core
     if sent.count == 0 {
         return core;
     }
-    signalled(core, Colour::Red)
+    core.signalled(Colour::Red)
 }

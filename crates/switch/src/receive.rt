@@ -3,16 +3,15 @@ ghost use mathlib.Core.Path.{_≡_};
 ghost use Prim.Native.Nat.{_≤_};
 ghost use lib.ListN.{length, drop};
 ghost use Rattle.switch.specs.Switch.{receive};
-ghost use Rattle.switch.specs.Events.{hueOf, replyTo, seenBy};
+ghost use Rattle.switch.specs.Events.{hueOf, replyTo};
 ghost use Rattle.switch.specs.Respond.{Responds};
-ghost use Rattle.switch.specs.Code.{Answers, Handles, Orders, effectOf, garbledBy, unmoved, verdictOf, verdictOn};
+ghost use Rattle.switch.specs.Code.{Answers, Handles, Orders, effectOf, garbledBy, unmoved, verdictOf, verdictOn, seenBy};
 use crate::Answer;
+use crate::Handed;
 use crate::Live;
-use crate::Outcome;
 use crate::ROOM;
 use crate::Sent;
 use crate::show;
-use crate::signalled;
 use acts::Core;
 use acts::Effect;
 use acts::orders::perform;
@@ -38,7 +37,7 @@ enum Verdict {
     Go,
 }
 
-pub fn receive(live: Live, all: &mut [u8; 256], packet: &[u8], out: &mut [u8]) -> Outcome
+pub fn receive(live: Live, all: &mut [u8; 256], packet: &[u8], out: &mut [u8]) -> Handed
     ensures { λ r. ⌜ Responds (receive (now (packet .entry))) live (now (all .entry)) (now (out .entry)) (r .answer) (r .live) (now (all .exit)) (now (out .exit)) ⌝ }
 {
     let paddles = live.paddles;
@@ -46,7 +45,7 @@ pub fn receive(live: Live, all: &mut [u8; 256], packet: &[u8], out: &mut [u8]) -
     let answer = handled.answer;
     let core = handled.core;
     let password = handled.password;
-    Outcome {
+    Handed {
         answer,
         live: Live {
             password,
@@ -102,7 +101,7 @@ fn unmoved(core: Core, password: Password, all: &[u8; 256], number: u8) -> Handl
 fn garbled(core: Core, password: Password, all: &[u8; 256], number: u8) -> Handled
     ensures { λ r. ⌜ r ≡ garbledBy number password core (now (all .entry)) ⌝ }
 {
-    let next = signalled(core, Colour::Black);
+    let next = core.signalled(Colour::Black);
     Handled {
         answer: show(next, all, number, Sent::none()),
         core: next,
@@ -221,7 +220,7 @@ fn answered(
     let write = effect.write;
     apply(write, values, all);
     let next_password = registers::write::password(write, values, password);
-    let core = signalled(effect.core, hue_of(reply));
+    let core = effect.core.signalled(hue_of(reply));
     let dimmer = core.dimmer;
     let level = dimmer.level;
     let length = post::send(all, seen, source, reply, level.percent(), out);

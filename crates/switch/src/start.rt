@@ -2,11 +2,11 @@
 ghost use mathlib.Core.Path.{_≡_};
 ghost use Rattle.registers.specs.Registers.{imageOf};
 ghost use Rattle.switch.specs.Switch.{restart};
-ghost use Rattle.switch.specs.Respond.{Responds, Starts, noOutcome};
-ghost use Rattle.switch.specs.Code.{Wakes};
+ghost use Rattle.switch.specs.Respond.{Responds, Starts};
+ghost use Rattle.switch.specs.Code.{Wakes, noOutcome};
 use crate::Answer;
+use crate::Handed;
 use crate::Live;
-use crate::Outcome;
 use crate::ROOM;
 use crate::Sent;
 use crate::edges::refused;
@@ -26,7 +26,7 @@ use vault::Password;
 
 // Starts a switch from a copy of the image. Where the image is not 256 bytes there is no switch: the answer's number is 1, and
 // the registers keep their bytes.
-pub fn start(image: &[u8], all: &mut [u8; 256]) -> Outcome
+pub fn start(image: &[u8], all: &mut [u8; 256]) -> Handed
     ensures { λ r. ⌜ Starts (now (image .entry)) (now (all .entry)) (r .answer) (r .live) (now (all .exit)) ⌝ }
 {
     let taken = registers::take(image, all);
@@ -36,7 +36,7 @@ pub fn start(image: &[u8], all: &mut [u8; 256]) -> Outcome
     wake(password, all)
 }
 
-pub fn restart(live: Live, all: &mut [u8; 256], out: &mut [u8]) -> Outcome
+pub fn restart(live: Live, all: &mut [u8; 256], out: &mut [u8]) -> Handed
     ensures { λ r. ⌜ Responds restart live (now (all .entry)) (now (out .entry)) (r .answer) (r .live) (now (all .exit)) (now (out .exit)) ⌝ }
 {
     if out.len() < ROOM {
@@ -53,14 +53,14 @@ pub fn image(live: Live, all: &[u8; 256], out: &mut [u8; 256])
 }
 
 // What start and restart share: one more in 0xFC, and everything but the registers and the password anew.
-fn wake(password: Password, all: &mut [u8; 256]) -> Outcome
+fn wake(password: Password, all: &mut [u8; 256]) -> Handed
     ensures { λ r. ⌜ Wakes password (now (all .entry)) (r .answer) (r .live) (now (all .exit)) ⌝ }
 {
     apply(Write::Count(Counter::Restarts), b"", all);
     let core = Core::started(all);
     let answer = show(core, all, 0, Sent::none());
     let paddles = [Paddle::up(), Paddle::up()];
-    Outcome {
+    Handed {
         answer,
         live: Live {
             password,
@@ -71,7 +71,7 @@ fn wake(password: Password, all: &mut [u8; 256]) -> Outcome
 }
 
 // What stands in the place of a switch that was not started.
-fn nobody(number: u8) -> Outcome
+fn nobody(number: u8) -> Handed
     ensures { λ r. ⌜ r ≡ noOutcome number ⌝ }
 {
     let paddles = [Paddle::up(), Paddle::up()];
@@ -81,7 +81,7 @@ fn nobody(number: u8) -> Outcome
         lamp: Lamp::fresh(),
         save: 0,
     };
-    Outcome {
+    Handed {
         answer: Answer {
             number,
             sent: Sent::none(),

@@ -6,8 +6,8 @@ ghost use Rattle.switch.specs.Switch.{tick};
 ghost use Rattle.switch.specs.Code.{passed};
 ghost use Rattle.switch.specs.Respond.{Responds};
 use crate::Answer;
+use crate::Handed;
 use crate::Live;
-use crate::Outcome;
 use crate::ROOM;
 use crate::Sent;
 use crate::edges::refused;
@@ -25,7 +25,7 @@ struct Passed {
 
 // In order: lamp and output timers, fade or blink, top paddle, bottom paddle, and the saved level. Most ticks complete no
 // gesture, and go the quick way.
-pub fn tick(live: Live, all: &mut [u8; 256], out: &mut [u8]) -> Outcome
+pub fn tick(live: Live, all: &mut [u8; 256], out: &mut [u8]) -> Handed
     ensures { λ r. ⌜ Responds tick live (now (all .entry)) (now (out .entry)) (r .answer) (r .live) (now (all .exit)) (now (out .exit)) ⌝ }
 {
     if out.len() < ROOM {
@@ -40,7 +40,7 @@ pub fn tick(live: Live, all: &mut [u8; 256], out: &mut [u8]) -> Outcome
         let passed = pass(core, all);
         let answer = passed.answer;
         let next = passed.core;
-        return Outcome {
+        return Handed {
             answer,
             live: Live {
                 password,
@@ -65,7 +65,7 @@ fn pass(core: Core, all: &[u8; 256]) -> Passed
 }
 
 // A tick of paddles that may act and send.
-fn turn(live: Live, all: &mut [u8; 256], out: &mut [u8]) -> Outcome
+fn turn(live: Live, all: &mut [u8; 256], out: &mut [u8]) -> Handed
     requires { ⌜ 48 ≤ length (now out) ⌝ }
     ensures { λ r. ⌜ Responds tick live (now (all .entry)) (now (out .entry)) (r .answer) (r .live) (now (all .exit)) (now (out .exit)) ⌝ }
 {
@@ -81,7 +81,7 @@ fn turn(live: Live, all: &mut [u8; 256], out: &mut [u8]) -> Outcome
     let next = signalled_on(effect.core, sent);
     let next_password = after.password;
     let next_paddles = after.paddles;
-    Outcome {
+    Handed {
         answer: show(next, all, 0, sent),
         live: Live {
             password: next_password,

@@ -9,13 +9,14 @@ use Rattle.words.proofs.Laws.{neither}
 use Rattle.vault.specs.Guesses.{Untried, among}
 use Rattle.vault.specs.Job.{Byte, Job, became, change, changed, compare, done, guessed, kept, put, reveal, settled}
 use Rattle.vault.specs.Machine.{gathered}
-use Rattle.vault.specs.Product.{Careful, Product, Proper, Site, StaysOut, Whole, alone, flats, guesses, responseOf}
+use Rattle.vault.specs.Product.{Product, Site, StaysOut, alone, flats, guesses, responseOf}
 use Rattle.vault.specs.Vault.{inSetup, matches}
 use Rattle.vault.specs.declared.Password.{Password}
 use Rattle.vault.proofs.Count.{among-append}
 use Rattle.vault.proofs.Laws.{chosen}
 use Rattle.vault.proofs.Run.{AllAllowed, Veil}
 use Rattle.vault.proofs.Step.{Same, its-own-outside, same-way, was-wrong}
+use Rattle.vault.specs.Code.{Whole, Proper, Careful}
 
 -- What it takes that guesses tell nothing at a site: a relation between the site as it runs and the site as it would run with the password w.
 pub record Hidden (S : Site) : Type 1 where

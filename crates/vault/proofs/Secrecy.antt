@@ -6,13 +6,14 @@ use lib.ListN.{length}
 use Rattle.vault.specs.Guesses.{Untried, distinct, passwords, without}
 use Rattle.vault.specs.Job.{SameWay, switch}
 use Rattle.vault.specs.Machine.{run, seen, transcript, visit}
-use Rattle.vault.specs.Product.{Careful, Product, Site, StaysOut, alone, guesses, machine}
-use Rattle.vault.specs.Promises.{GuestRulesOutGuesses, Keeps, KeepsItsPassword, Left, RulesOutGuesses, Secret, SecretAtOnce, SecretBetweenTwo, SecretFromGuesses, SecretInSetup}
+use Rattle.vault.specs.Product.{Product, Site, StaysOut, alone, guesses, machine}
+use Rattle.vault.specs.Promises.{GuestRulesOutGuesses, Keeps, KeepsItsPassword, Left, RulesOutGuesses, Secret, SecretBetweenTwo, SecretFromGuesses, SecretInSetup}
 use Rattle.vault.specs.declared.Password.{Password}
 use Rattle.vault.proofs.Count.{all-length, all-once, left-and-tried, left-once, left-untried}
 use Rattle.vault.proofs.Guessing.{Hidden, all-allowed, hidden-alone, hidden-flats, stays-out, untried-veil}
 use Rattle.vault.proofs.Run.{AllAllowed, Veil, run-alike, seen-alike}
 use Rattle.vault.proofs.Step.{one-step, secret-at-once, secret-at-once-in-flats}
+use Rattle.vault.specs.Code.{Careful, SecretAtOnce}
 
 -- ---- demand 3
 

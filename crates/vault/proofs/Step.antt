@@ -6,12 +6,12 @@ use borrow.Author.Tests.{eq-eqb}
 use lib.Dec.{eqb}
 use Rattle.words.proofs.Laws.{neither}
 use Rattle.vault.specs.Guesses.{Untried, among}
-use Rattle.vault.specs.Job.{Answered, Job, Outcome, SameWay, Switch, Unrevealed, compare, done, guessed, reveal, settled}
-use Rattle.vault.specs.Product.{Careful, Product, Proper, Site, alone, flats, responseOf}
-use Rattle.vault.specs.Promises.{SecretAtOnce}
+use Rattle.vault.specs.Job.{Answered, Job, Outcome, SameWay, Switch, compare, done, guessed, reveal, settled}
+use Rattle.vault.specs.Product.{Product, Site, alone, flats, responseOf}
 use Rattle.vault.specs.Vault.{inSetup, matches}
 use Rattle.vault.specs.declared.Password.{Password}
 use Rattle.vault.proofs.Laws.{chosen, respond-right}
+use Rattle.vault.specs.Code.{Unrevealed, Proper, Careful, SecretAtOnce}
 
 -- Two answers alike in all but the password.
 abbrev pub Same : {Plain Shown : Type 0} → Answered Plain Shown → Answered Plain Shown → Type 0

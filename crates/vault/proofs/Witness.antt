@@ -3,7 +3,7 @@ use mathlib.Core.Bool.{true}
 use mathlib.Core.Path.{_≡_, refl}
 use Prim.Native.Nat.{ℕ}
 use Rattle.vault.specs.Job.{Job, change, compare, done, nothing, outcome, put, reveal, switch}
-use Rattle.vault.specs.Product.{Careful, Product, responseOf}
+use Rattle.vault.specs.Product.{Product, responseOf}
 use Rattle.vault.specs.Promises.{KeepsItsPassword}
 use Rattle.vault.specs.Vault.{inSetup}
 use Rattle.vault.specs.declared.Mode.{Mode}
@@ -12,6 +12,7 @@ use Rattle.vault.specs.declared.Password.{Password}
 use Rattle.vault.proofs.Laws.{matches-itself}
 use Rattle.vault.proofs.Secrecy.{keeps-its-password}
 use Rattle.vault.proofs.Step.{right-guess-opens}
+use Rattle.vault.specs.Code.{Careful}
 
 data Ask : Type 0 where
   try : Password → Ask

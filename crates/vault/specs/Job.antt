@@ -32,6 +32,14 @@ became (put new) old = new
 unfoldable pub changed : Change → Password → Password
 changed c w = password (became (c .first) (w .0)) (became (c .second) (w .1))
 
+-- One change of the password after another.
+unfoldable pub over : Byte → Byte → Byte
+over before kept = before
+over before (put b) = put b
+
+unfoldable pub followed : Change → Change → Change
+followed before after = change (over (before .first) (after .first)) (over (before .second) (after .second))
+
 -- What is shown of an event, and all that the switch holds after it but the password.
 pub record Outcome (Plain Shown : Type 0) : Type 0 where
   pub shown : Shown
@@ -81,9 +89,3 @@ abbrev pub SameWay : {Plain Shown : Type 0} → Password → Password → Job Pl
 SameWay v w (done o c) = Unit {0}
 SameWay v w (compare guess right wrong) = matches v guess ≡ matches w guess
 SameWay v w (reveal show next) = show v ≡ show w
-
--- The job reveals nothing.
-abbrev pub Unrevealed : {Plain Shown : Type 0} → Job Plain Shown → Type 0
-Unrevealed (done o c) = Unit {0}
-Unrevealed (compare guess right wrong) = Unit {0}
-Unrevealed (reveal show next) = ⊥

@@ -4,3 +4,4 @@ pub mod Machine
 pub mod Product
 pub mod Promises
 pub mod Vault
+pub mod Code

@@ -1,9 +1,9 @@
 -- A product: any switch that keeps its password apart, and what it must see to so that the password stays secret.
-use mathlib.Core.Bool.{true, false}
+use mathlib.Core.Bool.{false}
 use mathlib.Core.List.{List}
 use mathlib.Core.Path.{_≡_}
 use Prim.Native.Nat.{ℕ}
-use Rattle.vault.specs.Job.{Answered, Byte, Job, Switch, compare, done, guessed, kept, put, reveal, settled, switch}
+use Rattle.vault.specs.Job.{Answered, Job, Switch, guessed, settled, switch}
 use Rattle.vault.specs.Machine.{Machine, Throughout, gathered, several}
 use Rattle.vault.specs.Vault.{inSetup}
 use Rattle.vault.specs.declared.Mode.{Mode}
@@ -30,24 +30,6 @@ machine P = record {
   shown = λ s e. responseOf P s e .shown;
   next = λ s e. responseOf P s e .next;
 }
-
--- Both bytes are kept, or both are put.
-abbrev pub Whole : Byte → Byte → Type 0
-Whole kept kept = Unit {0}
-Whole kept (put b) = ⊥
-Whole (put a) kept = ⊥
-Whole (put a) (put b) = Unit {0}
-
--- What a product must see to, job by job: outside Setup the password is kept or put as a whole, never byte by byte;
--- a right guess leaves the switch in Setup; only in Setup is the password revealed.
-abbrev pub Proper : (P : Product) → P .Plain → Job (P .Plain) (P .Shown) → Type 0
-Proper P p (done o c) = inSetup (P .mode p) ≡ false → Whole (c .first) (c .second)
-Proper P p (compare guess right wrong) = inSetup (P .mode (right .next)) ≡ true
-Proper P p (reveal show next) = inSetup (P .mode p) ≡ true
-
--- The product sees to it in every state, at every event.
-abbrev pub Careful : Product → Type 0
-Careful P = (p : P .Plain) (e : P .Event) → Proper P p (P .job p e)
 
 -- One switch, or all those on one main: whether it is outside Setup, when two of them are alike in all but the password,
 -- which guesses an event compares, and the same with another password given to it.

@@ -10,12 +10,6 @@ use Rattle.vault.specs.Machine.{Guest, ThroughoutBoth, run, seen, transc
 use Rattle.vault.specs.Product.{Product, Site, StaysOut, alone, flats, guesses, machine}
 use Rattle.vault.specs.declared.Password.{Password}
 
--- One event: two sites alike in all but the password, outside Setup before it and both outside after it, show the same and stay alike.
-abbrev pub SecretAtOnce : Site → Type 0
-SecretAtOnce S = (s t : S .machine .State) (e : S .machine .Event) → S .Alike s t → S .Outside s
-    → S .Outside (S .machine .next s e) → S .Outside (S .machine .next t e)
-    → (S .machine .shown s e ≡ S .machine .shown t e) × S .Alike (S .machine .next s e) (S .machine .next t e)
-
 -- "Take two switches alike in all but the password, neither in Setup Mode, and give both the same events, wrong guesses included. At each event
 -- before the first that puts either into Setup Mode, their answers, packets, output and lamp are equal, and so is all they hold outside the two password bytes."
 -- The list is any stretch of events before that first one.

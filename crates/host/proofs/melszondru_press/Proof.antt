@@ -50,8 +50,8 @@ keep-times-requires c κs = search needs
 keep-paddle-requires : tie.Need-keep-paddle-requires
 keep-paddle-requires c κs = search needs
 
-answer-of-requires : tie.Need-answer-of-requires
-answer-of-requires c κs = search needs
+figures-of-requires : tie.Need-figures-of-requires
+figures-of-requires c κs = search needs
 
 returns-3 : tie.Need-returns-3
 returns-3 c =
@@ -66,7 +66,7 @@ returns-3 c =
     edge-speaks _ _ _ _ _ _ _ _ _ _ _ _ _ small
     (press-responded _ _ _ _ _ _ _ (tests .before .if1 .left) known (paddle .paddle-of .ensures) (press .before .kind .ensures) _ (press .press3 .ensures))
     (core .core-of .ensures) (show .before .none .ensures) (show .show .ensures)
-    (c .before .before .before .keep-times .ensures) (c .before .keep-paddle .ensures) (c .answer-of .ensures)
+    (c .before .before .before .keep-times .ensures) (c .before .keep-paddle .ensures) (c .figures-of .ensures)
 
 pub melszondru-press-spec : {M : Type 1} → statement M
 melszondru-press-spec =
@@ -87,5 +87,5 @@ melszondru-press-spec =
     show-requires
     keep-times-requires
     keep-paddle-requires
-    answer-of-requires
+    figures-of-requires
     returns-3)

@@ -21,8 +21,8 @@ keep-password-requires c κs = search needs
 keep-core-requires : tie.Need-keep-core-requires
 keep-core-requires c κs = search needs
 
-answer-of-requires : tie.Need-answer-of-requires
-answer-of-requires c κs = search needs
+figures-of-requires : tie.Need-figures-of-requires
+figures-of-requires c κs = search needs
 
 same-length : tie.Need-same-length
 same-length c = search needs
@@ -32,7 +32,7 @@ returns c =
     let handle = c .before .before .before .before .before .before .before .before .before .before .before in
     let password = handle .before .before .before in
     receive-speaks _ _ _ _ _ _ _ _ _ _ _ _ _ _ (password .before .before .core-of .ensures) (password .password-of .ensures) (handle .handle .ensures)
-    (c .before .before .before .before .before .keep-run .ensures) (c .before .before .before .keep-password .ensures) (c .before .keep-core .ensures) (c .answer-of .ensures)
+    (c .before .before .before .before .before .keep-run .ensures) (c .before .before .before .keep-password .ensures) (c .before .keep-core .ensures) (c .figures-of .ensures)
 
 pub melszondru-receive-spec : {M : Type 1} → statement M
 melszondru-receive-spec =
@@ -44,6 +44,6 @@ melszondru-receive-spec =
     keep-run-requires
     keep-password-requires
     keep-core-requires
-    answer-of-requires
+    figures-of-requires
     same-length
     returns)

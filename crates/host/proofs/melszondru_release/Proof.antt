@@ -63,8 +63,8 @@ keep-times-requires c κs = search needs
 keep-paddle-requires : tie.Need-keep-paddle-requires
 keep-paddle-requires c κs = search needs
 
-answer-of-requires : tie.Need-answer-of-requires
-answer-of-requires c κs = search needs
+figures-of-requires : tie.Need-figures-of-requires
+figures-of-requires c κs = search needs
 
 returns-4 : tie.Need-returns-4
 returns-4 c =
@@ -81,7 +81,7 @@ returns-4 c =
     (release-responded _ _ _ _ _ _ _ (tests .before .if1 .left) known (paddle .paddle-of .ensures) (release .before .kind .ensures) _ _
     (release .release3 .ensures) (still .before .none .ensures) (not-false _ (still .if3 .left)))
     (core .core-of .ensures) (show .before .none2 .ensures) (show .show .ensures)
-    (c .before .before .before .keep-times .ensures) (c .before .keep-paddle .ensures) (c .answer-of .ensures)
+    (c .before .before .before .keep-times .ensures) (c .before .keep-paddle .ensures) (c .figures-of .ensures)
 
 pub melszondru-release-spec : {M : Type 1} → statement M
 melszondru-release-spec =
@@ -106,5 +106,5 @@ melszondru-release-spec =
     show-requires
     keep-times-requires
     keep-paddle-requires
-    answer-of-requires
+    figures-of-requires
     returns-4)

@@ -7,11 +7,11 @@ use Rattle.host.proofs.melszondru_start.Tie as tie
 start-requires : tie.Need-start-requires
 start-requires c κs = search needs
 
-answer-of-requires : tie.Need-answer-of-requires
-answer-of-requires c κs = search needs
+figures-of-requires : tie.Need-figures-of-requires
+figures-of-requires c κs = search needs
 
 returns : tie.Need-returns
-returns c = begins-none _ _ _ _ _ _ _ _ (λ long. omega arith) (c .before .before .start .ensures) (c .answer-of .ensures)
+returns c = begins-none _ _ _ _ _ _ _ _ (λ long. omega arith) (c .before .before .start .ensures) (c .figures-of .ensures)
 
 tell-requires : tie.Need-tell-requires
 tell-requires c κs = search needs
@@ -23,4 +23,4 @@ returns-2 c =
 
 pub melszondru-start-spec : {M : Type 1} → statement M
 melszondru-start-spec =
-    tie.close (tie.spec start-requires answer-of-requires returns tell-requires returns-2)
+    tie.close (tie.spec start-requires figures-of-requires returns tell-requires returns-2)

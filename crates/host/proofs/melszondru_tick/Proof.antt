@@ -64,8 +64,8 @@ keep-all-times-requires c κs = search needs
 keep-step-requires : tie.Need-keep-step-requires
 keep-step-requires c κs = search needs
 
-answer-of-requires : tie.Need-answer-of-requires
-answer-of-requires c κs = search needs
+figures-of-requires : tie.Need-figures-of-requires
+figures-of-requires c κs = search needs
 
 returns-4 : tie.Need-returns-4
 returns-4 c =
@@ -78,7 +78,7 @@ returns-4 c =
     let unsaved = recognise .before .before .before .before in
     tick-speaks _ _ _ _ _ _ _ _ _ _ _ _ _ _ _ (unsaved .before .before .if1 .left) (unsaved .if2 .left) (recognise .before .paddles-of .ensures) (recognise .recognise .ensures)
     (not-false _ (quiet .if3 .left)) (core .core-of .ensures) (save .before .aged .ensures) (save .run .ensures) (show .before .none .ensures)
-    (show .show .ensures) (run .keep-run .ensures) (c .before .before .before .keep-all-times .ensures) (c .before .keep-step .ensures) (c .answer-of .ensures)
+    (show .show .ensures) (run .keep-run .ensures) (c .before .before .before .keep-all-times .ensures) (c .before .keep-step .ensures) (c .figures-of .ensures)
 
 pub melszondru-tick-spec : {M : Type 1} → statement M
 melszondru-tick-spec =
@@ -104,5 +104,5 @@ melszondru-tick-spec =
     keep-run-requires
     keep-all-times-requires
     keep-step-requires
-    answer-of-requires
+    figures-of-requires
     returns-4)

@@ -1,8 +1,9 @@
 -- `announce` meets its contract: what the callees hand back, under the test of the link.
 use borrow.Author.Needs.{needs}
-use Rattle.post.specs.Post.{noteOf, gestureMessage}
+use Rattle.post.specs.Post.{gestureMessage}
 use Rattle.post.proofs.announce.Statement.{statement}
 use Rattle.post.proofs.announce.Tie as tie
+use Rattle.post.specs.Code.{noteOf}
 
 transmit-of-requires : tie.Need-transmit-of-requires
 transmit-of-requires c κs = search needs

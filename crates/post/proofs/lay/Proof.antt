@@ -1,9 +1,10 @@
 -- `lay` meets its contract: each arm hands the bytes of its message to `link`.
 use borrow.Author.Needs.{needs}
-use Rattle.post.specs.Post.{sentOf, bytesOf, enveloped}
+use Rattle.post.specs.Post.{bytesOf, enveloped}
 use Rattle.post.proofs.Laws.{nothing-laid}
 use Rattle.post.proofs.lay.Statement.{statement}
 use Rattle.post.proofs.lay.Tie as tie
+use Rattle.post.specs.Code.{sentOf}
 
 enum-told : tie.Need-enum-told
 enum-told c = search needs

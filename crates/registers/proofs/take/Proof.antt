@@ -1,8 +1,9 @@
 use borrow.Author.Needs.{needs}
 use Rattle.words.proofs.Laws.{tests}
-use Rattle.registers.specs.Registers.{afterTaking, apart, passwordIn, takenOf}
+use Rattle.registers.specs.Registers.{apart, passwordIn}
 use Rattle.registers.proofs.take.Statement.{statement}
 use Rattle.registers.proofs.take.Tie as tie
+use Rattle.registers.specs.Code.{takenOf, afterTaking}
 
 shared-slice-read-first : tie.Need-shared-slice-read-first
 shared-slice-read-first c = search needs

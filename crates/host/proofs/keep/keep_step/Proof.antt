@@ -1,8 +1,8 @@
 use borrow.Author.Tests.{eq-eqb, ne-eqb}
-use Rattle.host.specs.Keeping.{keptStep}
 use borrow.Author.Needs.{needs}
 use Rattle.host.proofs.keep.keep_step.Statement.{statement}
 use Rattle.host.proofs.keep.keep_step.Tie as tie
+use Rattle.host.specs.Code.{keptStep}
 
 element-copy-out-if1 : tie.Need-element-copy-out-if1
 element-copy-out-if1 c = search needs

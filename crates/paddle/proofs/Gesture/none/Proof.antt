@@ -1,8 +1,8 @@
 use borrow.Author.Needs.{needs}
 use Rattle.words.proofs.Laws.{tests}
-use Rattle.paddle.specs.Paddle.{completesNothing}
 use Rattle.paddle.proofs.Gesture.none.Statement.{statement}
 use Rattle.paddle.proofs.Gesture.none.Tie as tie
+use Rattle.paddle.specs.Code.{completesNothing}
 
 enum-told : tie.Need-enum-told
 enum-told c = search needs

@@ -1,7 +1,7 @@
 use Rattle.words.proofs.Laws.{tests}
-use Rattle.switch.specs.Switch.{added}
 use Rattle.switch.proofs.Sent.with.Statement.{statement}
 use Rattle.switch.proofs.Sent.with.Tie as tie
+use Rattle.switch.specs.Code.{added}
 
 returns : tie.Need-returns
 unfolding added

@@ -3,11 +3,11 @@ use native.Mathlib.Omega.{arith}
 use denote.Ref.{now}
 use lib.ListN.{length, getD, length-take}
 use borrow.Author.Needs.{needs}
-use Rattle.post.specs.Post.{noNote}
 use Rattle.switch.proofs.Turning.{length-of-mapped}
 use Rattle.switch.proofs.Laying.{noted-sends, notes-again, notes-after}
 use Rattle.switch.proofs.paddles.lay_notes.Statement.{statement}
 use Rattle.switch.proofs.paddles.lay_notes.Tie as tie
+use Rattle.post.specs.Code.{noNote}
 
 array-copy-out-first : tie.Need-array-copy-out-first
 array-copy-out-first c = search needs

@@ -1,8 +1,8 @@
 use borrow.Author.Needs.{needs}
 use Rattle.words.proofs.Laws.{tests}
-use Rattle.switch.specs.Events.{seenBy}
 use Rattle.switch.proofs.receive.seen_by.Statement.{statement}
 use Rattle.switch.proofs.receive.seen_by.Tie as tie
+use Rattle.switch.specs.Code.{seenBy}
 
 enum-told : tie.Need-enum-told
 enum-told c = search needs

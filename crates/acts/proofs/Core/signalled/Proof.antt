@@ -1,8 +1,8 @@
 use borrow.Author.Needs.{needs}
 use Rattle.words.proofs.Laws.{tests}
-use Rattle.switch.specs.Events.{signalled}
-use Rattle.switch.proofs.signalled.Statement.{statement}
-use Rattle.switch.proofs.signalled.Tie as tie
+use Rattle.acts.proofs.Core.signalled.Statement.{statement}
+use Rattle.acts.proofs.Core.signalled.Tie as tie
+use Rattle.acts.specs.Core.{signalled}
 
 blinked-requires : tie.Need-blinked-requires
 blinked-requires c κs = search needs

@@ -1,8 +1,8 @@
 use Rattle.words.proofs.Laws.{tests}
-use Rattle.host.specs.Mirror.{inNumbers}
+use Rattle.host.specs.Mirror.{inFigures}
 use borrow.Author.Needs.{needs}
-use Rattle.host.proofs.mirror.answer_of.Statement.{statement}
-use Rattle.host.proofs.mirror.answer_of.Tie as tie
+use Rattle.host.proofs.mirror.figures_of.Statement.{statement}
+use Rattle.host.proofs.mirror.figures_of.Tie as tie
 
 colour-number-requires : tie.Need-colour-number-requires
 colour-number-requires c κs = search needs
@@ -11,8 +11,8 @@ mode-number-requires : tie.Need-mode-number-requires
 mode-number-requires c κs = search needs
 
 returns : tie.Need-returns
-unfolding inNumbers
+unfolding inFigures
 returns c = search (tests, c .mode-number .ensures, c .before .colour-number .ensures)
 
-pub answer-of-spec : {M : Type 1} → statement M
-answer-of-spec = tie.close (tie.spec colour-number-requires mode-number-requires returns)
+pub figures-of-spec : {M : Type 1} → statement M
+figures-of-spec = tie.close (tie.spec colour-number-requires mode-number-requires returns)

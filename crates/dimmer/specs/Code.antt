@@ -1,0 +1,19 @@
+-- What the code and the proofs are cut by: no promise under the roof needs a definition of this file.
+use mathlib.Core.Path.{_≡_}
+use mathlib.Core.Bool.{Bool, true, false}
+use Prim.Native.Nat.{ℕ, _≤_, _<_}
+use Rattle.units.specs.declared.Step.{Step}
+use Rattle.dimmer.specs.declared.Motion.{Motion}
+use Rattle.dimmer.specs.declared.Motion.the-variants.{Idle, Fading, Blinking}
+use Rattle.dimmer.specs.declared.Dimmer.{Dimmer}
+use Rattle.dimmer.specs.Dimmer.{tickedBy}
+
+-- "Unless replaced it ends after exactly ticks per step times distance": what runs before the given tick rests at its target from then on.
+unfoldable pub running : Motion → Bool
+running Idle = false
+running (Fading target period left) = true
+running (Blinking period left) = true
+
+pub record EndsAfter (total : ℕ) (d : Dimmer) (target : Step) : Type 0 where
+  pub runs : (n : ℕ) → n < total → running (tickedBy n d .motion) ≡ true
+  pub rests : (n : ℕ) → total ≤ n → (tickedBy n d .motion ≡ Idle) × (tickedBy n d .level ≡ target)

@@ -1,0 +1,77 @@
+-- What the code and the proofs are cut by: no promise under the roof needs a definition of this file.
+use Prim.Native.Nat.{ℕ, _≤_}
+use Rattle.judge.specs.declared.Verb.the-variants.{Open, Close, Get, Set, Activate, Deactivate, Goto, Blink, Report, Store}
+use Rattle.judge.specs.declared.Order.{Order}
+use Rattle.judge.specs.declared.Order.the-variants as order
+use Rattle.judge.specs.Judge.{judged}
+use Rattle.judge.specs.Promises.{Reached, Refusal, Accepted}
+use mathlib.Core.Bool.{false}
+use mathlib.Core.List.{List, [], _∷_}
+use mathlib.Core.Logic.{_↔_}
+use mathlib.Core.Path.{_≡_}
+use Rattle.vault.specs.declared.Mode.{Mode}
+use Rattle.vault.specs.declared.Mode.the-variants.{Normal}
+use Rattle.packet.specs.declared.Header.{Header}
+
+-- The number of an order: that of the refusal, or 0.
+abbrev pub numberOfOrder : Order → ℕ
+numberOfOrder (order.Refused n) = n
+numberOfOrder (order.Open guess) = 0
+numberOfOrder order.Close = 0
+numberOfOrder (order.Get first count) = 0
+numberOfOrder (order.Set first) = 0
+numberOfOrder (order.Activate i) = 0
+numberOfOrder (order.Deactivate i) = 0
+numberOfOrder (order.Goto level rate) = 0
+numberOfOrder order.Stop = 0
+numberOfOrder (order.Blink value) = 0
+numberOfOrder order.Report = 0
+numberOfOrder (order.Store i) = 0
+
+-- What holds where an answer is given: its row of the table, or its command's sentence.
+abbrev pub Judged : Order → List ℕ → Mode → Header → List ℕ → Type 0
+Judged (order.Refused n) all mode h m = Refusal all mode h m n
+Judged (order.Open guess) all mode h m = Accepted (order.Open guess) all mode h m
+Judged order.Close all mode h m = Accepted order.Close all mode h m
+Judged (order.Get first count) all mode h m = Accepted (order.Get first count) all mode h m
+Judged (order.Set first) all mode h m = Accepted (order.Set first) all mode h m
+Judged (order.Activate i) all mode h m = Accepted (order.Activate i) all mode h m
+Judged (order.Deactivate i) all mode h m = Accepted (order.Deactivate i) all mode h m
+Judged (order.Goto level rate) all mode h m = Accepted (order.Goto level rate) all mode h m
+Judged order.Stop all mode h m = Accepted order.Stop all mode h m
+Judged (order.Blink value) all mode h m = Accepted (order.Blink value) all mode h m
+Judged order.Report all mode h m = Accepted order.Report all mode h m
+Judged (order.Store i) all mode h m = Accepted (order.Store i) all mode h m
+
+-- Each answer is given exactly when document 01 says.
+abbrev pub JudgedExactly : Type 0
+JudgedExactly = (o : Order) (all : List ℕ) (mode : Mode) (h : Header) (m : List ℕ) → (judged all mode h m ≡ o) ↔ Judged o all mode h m
+
+-- "Given exactly when", for the numbers: a number other than 0 is given exactly when its row says, and only 9 to 13 have one.
+abbrev pub NumberExactly : Type 0
+NumberExactly =
+    (n : ℕ) (all : List ℕ) (mode : Mode) (h : Header) (m : List ℕ) → (n ≡ 0 → ⊥)
+    → (numberOfOrder (judged all mode h m) ≡ n) ↔ Refusal all mode h m n
+
+abbrev pub OnlyNineTo13 : Type 0
+OnlyNineTo13 = (n : ℕ) (all : List ℕ) (mode : Mode) (h : Header) (m : List ℕ) → Refusal all mode h m n → (9 ≤ n) × (n ≤ 13)
+
+-- Examples of the order of the checks, for any packet that passes 9 and 10.
+pub record Examples (all : List ℕ) (mode : Mode) (h : Header) : Type 0 where
+  -- A Get of no registers, or of 17, is 12: by link, to destination 0 and from source 0 too.
+  pub count-0 : (first : ℕ) → judged all mode h (0x10 ∷ first ∷ 0 ∷ []) ≡ order.Refused 12
+  pub count-17 : (first : ℕ) → judged all mode h (0x10 ∷ first ∷ 17 ∷ []) ≡ order.Refused 12
+  -- A Set past 0xFF is 12 in every mode.
+  pub past-0xFF : (a b : ℕ) → judged all mode h (0x11 ∷ 0xFF ∷ a ∷ b ∷ []) ≡ order.Refused 12
+  -- A direct Activate with an argument is 12, without one 13.
+  pub with-argument : (a : ℕ) → judged all mode h (0x20 ∷ a ∷ []) ≡ order.Refused 12
+  pub without : h .link ≡ false → judged all mode h (0x20 ∷ []) ≡ order.Refused 13
+  -- Any guess outside Normal, or to destination 0, is 13.
+  pub outside-normal : (mode ≡ Normal → ⊥) → (a b : ℕ) → judged all mode h (0x03 ∷ a ∷ b ∷ []) ≡ order.Refused 13
+  pub to-everyone : h .destination ≡ 0 → (a b : ℕ) → judged all mode h (0x03 ∷ a ∷ b ∷ []) ≡ order.Refused 13
+  -- A received reply is 11.
+  pub status-reply : (rest : List ℕ) → judged all mode h (0x86 ∷ rest) ≡ order.Refused 11
+  pub registers-reply : (rest : List ℕ) → judged all mode h (0x90 ∷ rest) ≡ order.Refused 11
+
+abbrev pub ChecksInOrder : Type 0
+ChecksInOrder = (all : List ℕ) (mode : Mode) (h : Header) → Reached all h → Examples all mode h

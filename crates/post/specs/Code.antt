@@ -1,0 +1,85 @@
+-- What the code and the proofs are cut by: no promise under the roof needs a definition of this file.
+use mathlib.Core.Path.{_≡_}
+use mathlib.Core.Bool.{true}
+use mathlib.Core.List.{List, [], _∷_, _++_}
+use Prim.Native.Nat.{ℕ, _+_, _≤_}
+use lib.Dec.{ltb, eqb}
+use lib.ListN.{length, take, drop}
+use Rattle.words.specs.Words.{if_then_else_}
+use Rattle.units.specs.declared.Percent.{Percent}
+use Rattle.units.specs.Units.{percent}
+use Rattle.vault.specs.declared.Mode.{Mode}
+use Rattle.packet.specs.declared.Header.{Header}
+use Rattle.paddle.specs.declared.Gesture.{Gesture}
+use Rattle.registers.specs.Places.{networkIn, unitIn, transmitIn}
+use Rattle.registers.specs.Registers.{valid}
+use Rattle.registers.specs.declared.Seen.{Seen}
+use Rattle.post.specs.declared.Message.{Message}
+use Rattle.post.specs.declared.Message.the-variants.{Empty}
+use Rattle.post.specs.declared.Note.{Note}
+use Rattle.post.specs.Post.{header, enveloped, bytesOf, gestureMessage, placedOne, place, announced, replied, placed}
+use Rattle.post.specs.declared.Reply.the-variants.{Status}
+
+-- A link packet still to be laid; and none.
+abbrev pub note : ℕ → ℕ → ℕ → Message → Note
+note network source destination message =
+    record { network = network; source = source; destination = destination; message = message }
+
+abbrev pub noNote : Note
+noNote = note 0 0 0 Empty
+
+-- The note of a gesture: the same packet, with network, source and link as the registers then stand.
+unfoldable pub noteOf : List ℕ → Mode → ℕ → Gesture → Percent → Note
+noteOf all mode paddle g percent =
+    if valid (transmitIn all paddle .link)
+    then note (networkIn all) (unitIn all) (transmitIn all paddle .link) (gestureMessage all mode paddle g percent)
+    else noNote
+
+-- The packets of a note, one or none.
+abbrev pub noteHeader : Note → Header
+noteHeader n = header true (n .network) (n .destination) (n .source)
+
+unfoldable pub sentOf : Note → List (List ℕ)
+sentOf n = enveloped (noteHeader n) (bytesOf (n .message))
+
+-- The packet for one place; where there is none, no bytes.
+unfoldable pub front : List (List ℕ) → List ℕ
+front [] = []
+front (p ∷ rest) = p
+
+-- The length of what is laid into room bytes: 0 where they are too few.
+unfoldable pub laidLength : List ℕ → ℕ → ℕ
+laidLength p room = if ltb room (length p) then 0 else length p
+
+-- What laying packets into one place promises: the answer, and every byte of the place.
+pub record Laid (sent : List (List ℕ)) (before : List ℕ) (answer : ℕ) (after : List ℕ) : Type 0 where
+  pub answered : answer ≡ laidLength (front sent) (length before)
+  pub bytes : after ≡ placedOne (front sent) before
+
+unfoldable pub placedAt : ℕ → List ℕ → List ℕ → List ℕ
+placedAt k p before = take k before ++ (placedOne p (take place (drop k before)) ++ drop place (drop k before))
+
+-- The packets of a gesture's note are those that the gesture announces.
+abbrev pub NoteSent : Type 0
+NoteSent =
+    (all : List ℕ) (mode : Mode) (paddle : ℕ) (g : Gesture) (p : Percent)
+    → sentOf (noteOf all mode paddle g p) ≡ announced all mode paddle g p
+
+-- No two outcomes of `lay` and `send`: the promise fixes the answer and every byte of the place.
+abbrev pub LaysOneWay : Type 0
+LaysOneWay =
+    (sent : List (List ℕ)) (before after after′ : List ℕ) (n n′ : ℕ)
+    → Laid sent before n after → Laid sent before n′ after′ → (n ≡ n′) × (after ≡ after′)
+
+-- Two notes laid one after the other, the second into the first place that is free, fill the places in order.
+abbrev pub NotesInOrder : Type 0
+NotesInOrder =
+    (first second : Note) (before : List ℕ) → place + place ≤ length before
+    → placedAt (if eqb (length (front (sentOf first))) 0 then 0 else place) (front (sentOf second)) (placedAt 0 (front (sentOf first)) before)
+    ≡ placed (sentOf first ++ sentOf second) before
+
+-- "(a) .. is answered by 08 00 01 09 05 86 28 3B": network 1, unit 5, 40 percent, from sender 9.
+abbrev pub CaseA : Type 0
+CaseA =
+    (all : List ℕ) (seen : Seen) → networkIn all ≡ 1 → unitIn all ≡ 5
+    → replied all seen 9 Status (percent 40) ≡ (0x08 ∷ 0x00 ∷ 0x01 ∷ 0x09 ∷ 0x05 ∷ 0x86 ∷ 0x28 ∷ 0x3B ∷ []) ∷ []

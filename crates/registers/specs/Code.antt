@@ -1,0 +1,52 @@
+-- What the code and the proofs are cut by: no promise under the roof needs a definition of this file.
+use mathlib.Core.Path.{_≡_}
+use mathlib.Core.List.{List}
+use mathlib.Core.Logic.{_↔_}
+use Prim.Native.Nat.{ℕ, _<_}
+use lib.Dec.{eqb}
+use lib.ListN.{length}
+use Rattle.words.specs.Words.{if_then_else_}
+use Rattle.registers.specs.Places.{size, components, linkOf, secret}
+use Rattle.registers.specs.declared.Taken.{Taken}
+use Rattle.registers.specs.declared.Taken.the-variants.{Apart, Refused}
+use Rattle.registers.specs.Registers.{passwordIn, apart, numberTaken}
+use Rattle.registers.specs.declared.write.Write.{Write}
+use Rattle.registers.specs.declared.write.Write.the-variants.{Nothing, Count, Save, Preset, Factory, Values}
+use Rattle.registers.specs.Write.{sets}
+use mathlib.Core.Bool.{Bool, false}
+
+-- "A switch starts from a copy of a lent image of 256 register bytes." Refused, the registers keep their bytes.
+unfoldable pub takenOf : List ℕ → Taken
+takenOf image = if eqb (length image) size then Apart (passwordIn image) else Refused
+
+unfoldable pub afterTaking : List ℕ → List ℕ → List ℕ
+afterTaking image all = if eqb (length image) size then apart image else all
+
+pub record Took (image before : List ℕ) (answer : Taken) (after : List ℕ) : Type 0 where
+  pub answered : answer ≡ takenOf image
+  pub registers : after ≡ afterTaking image before
+
+-- "1: image is not 256 bytes"; else it is taken.
+pub record TakenExactly : Type 0 where
+  pub taken : (image : List ℕ) → (numberTaken (takenOf image) ≡ 0) ↔ (length image ≡ size)
+  pub refused : (image : List ℕ) → (numberTaken (takenOf image) ≡ 1) ↔ (length image ≡ size → ⊥)
+
+-- Component i is the first of the sixteen with this link; none of the sixteen has it.
+abbrev pub FirstWith : List ℕ → ℕ → ℕ → Type 0
+FirstWith all link i = (i < components) × ((linkOf all i ≡ link) × ((j : ℕ) → j < i → linkOf all j ≡ link → ⊥))
+
+abbrev pub NoneWith : List ℕ → ℕ → Type 0
+NoneWith all link = (j : ℕ) → j < components → linkOf all j ≡ link → ⊥
+
+-- The same of the array without the password: its two places are never touched.
+unfoldable pub touches : Write → ℕ → ℕ → Bool
+touches write count place = if secret place then false else sets write count place
+
+-- The percents that a write holds are bytes.
+abbrev pub PercentByte : Write → Type 0
+PercentByte Nothing = Unit {0}
+PercentByte (Count counter) = Unit {0}
+PercentByte (Save percent) = percent .0 < 256
+PercentByte (Preset component percent) = percent .0 < 256
+PercentByte Factory = Unit {0}
+PercentByte (Values first) = Unit {0}
