@@ -1,6 +1,6 @@
 -- Every start leads to a tick that passes Setup unseen, by the paddles alone.
 use mathlib.Core.Bool.{false}
-use mathlib.Core.List.{List, [], _∷_, _++_}
+use mathlib.Core.List.{List, [], _∷_, _++_, map}
 use mathlib.Core.Path.{_≡_, refl, sym, ap, ap₂, _∙_, subst}
 use Prim.Native.Nat.{ℕ, zero, suc, _+_, _-_, _≤_, _<_}
 use native.Mathlib.Omega.{arith}
@@ -15,6 +15,7 @@ use Rattle.vault.specs.declared.Mode.the-variants.{Normal, Setup, Factory}
 use Rattle.paddle.specs.Paddle.{closing, completed, oneTapMore, down, ends, freshPaddle, gesture, tapsKept, left, nextPaddle, pressed, released}
 use Rattle.timers.specs.Timers.{less}
 use Rattle.paddle.specs.Promises.{raised, paddleTicks}
+use Rattle.paddle.specs.Code.{completesNothing}
 use Rattle.paddle.specs.declared.Contact.the-variants.{Local}
 use Rattle.paddle.specs.declared.Gesture.the-variants.{Nothing, Taps}
 use Rattle.paddle.specs.declared.Paddle.{Paddle}
@@ -22,13 +23,13 @@ use Rattle.paddle.proofs.Laws.{a-tap, hold-comes, run-open}
 use Rattle.acts.specs.Core.{started}
 use Rattle.acts.specs.Gestures.{leads}
 use Rattle.switch.specs.Switch.{Event, Plain, press, release, tick}
-use Rattle.switch.specs.Events.{begun, jobOfDeed, finished, gestureAt, job, kindOf, known, paddleAt, paddleOf, pressedAt, jobOfPress, releasedAt, jobOfRelease, signalledBy, jobOfTick, woken}
+use Rattle.switch.specs.Events.{begun, jobOfDeed, finished, gestureAt, job, kindOf, known, paddleAt, paddleOf, pressedAt, jobOfPress, releasedAt, jobOfRelease, signalledBy, woken}
+use Rattle.switch.specs.Code.{quiet}
 use Rattle.switch.specs.Respond.{respond, startedFrom}
-use Rattle.promises.specs.Modes.{modeFor}
 use Rattle.promises.specs.Ticking.{pressOf, runOf, ticksOf, with48}
 use Rattle.promises.specs.Passing.{BothClose, Passing, ReachedByTaps, Reaches, tapAlone, around, throughToFactory, throughToNormal, withOne, withTwo}
-use Rattle.promises.proofs.Cases.{run-joined, ticks-shift}
-use Rattle.promises.proofs.Modes.{finds-modes, signalled-mode, tick-mode, turned-mode, up-leads}
+use Rattle.promises.proofs.Ticks.{after-ticks, run-joined}
+use Rattle.promises.proofs.Modes.{finds-modes, signalled-mode, turned-mode, up-leads}
 use Rattle.promises.proofs.Passing.{both-pass, end-mode, every-tick, factory-exactly, factory-from-outside, of-two-paddles, ten-found, unseen-counts, unseen-exactly}
 
 -- A switch in Normal with these two paddles.
@@ -61,17 +62,6 @@ module _ (s : Switch Plain) (a b : Paddle) (k : At s a b) where
   unfolding Product.responseOf job jobOfDeed known jobOfRelease finished settled releasedAt paddleOf kindOf
   bottom-released = record { paddles = rw (k .paddles); mode = release-mode 1 ∙ k .mode }
 
-  quiet-mode : gesture a ≡ Nothing → gesture b ≡ Nothing → modeFor Normal (a ∷ b ∷ []) 2 ≡ Normal
-  unfolding modeFor leads
-  quiet-mode p q = rw (p, q)
-
-  both-ticked : gesture a ≡ Nothing → gesture b ≡ Nothing → At (respond s (with48 tick) .next) (nextPaddle a) (nextPaddle b)
-  unfolding Product.responseOf job jobOfDeed jobOfTick finished settled
-  both-ticked p q = record {
-    paddles = rw (k .paddles);
-    mode = tick-mode s ∙ rw (k .paddles, k .mode) (quiet-mode p q);
-  }
-
 -- ---- ticks
 
 ticks-more : (n m : ℕ) (p : Paddle) → paddleTicks n (paddleTicks m p) ≡ paddleTicks (n + m) p
@@ -83,15 +73,11 @@ ticks-more (suc n) m p = let e : suc (n + m) ≡ suc n + m = omega arith in ap n
 abbrev Quiet : ℕ → Paddle → Type 0
 Quiet n p = (k : ℕ) → k < n → gesture (paddleTicks k p) ≡ Nothing
 
-quiet-next : (n : ℕ) (p : Paddle) → Quiet (suc n) p → Quiet n (nextPaddle p)
-quiet-next n p q k h = ap gesture (ticks-shift k p) ∙ q (suc k) (omega arith)
-
 both-ticks : (n : ℕ) (s : Switch Plain) (a b : Paddle) → At s a b → Quiet n a → Quiet n b → At (runOf s (ticksOf n)) (paddleTicks n a) (paddleTicks n b)
-unfolding run ticksOf paddleTicks
-both-ticks zero s a b k p q = k
-both-ticks (suc n) s a b k p q =
-    let on = both-ticks n (respond s (with48 tick) .next) (nextPaddle a) (nextPaddle b) (both-ticked s a b k (p 0 (omega arith)) (q 0 (omega arith))) (quiet-next n a p) (quiet-next n b q) in
-    record { paddles = on .paddles ∙ ap₂ (λ (x y : Paddle). x ∷ y ∷ []) (ticks-shift n a) (ticks-shift n b); mode = on .mode }
+unfolding quiet completesNothing
+both-ticks n s a b k p q =
+    let same = after-ticks n s (λ i h. rw (k .paddles, p i h, q i h)) in
+    record { paddles = ap (λ (t : Switch Plain). t .plain .paddles) same ∙ ap (map (paddleTicks n)) (k .paddles); mode = ap (λ (t : Switch Plain). t .plain .core .mode) same ∙ k .mode }
 
 -- A paddle that was not touched stays as it is.
 fresh-ticks : (n : ℕ) → paddleTicks n freshPaddle ≡ freshPaddle
