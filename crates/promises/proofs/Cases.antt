@@ -25,7 +25,7 @@ use Rattle.lamp.specs.declared.Lamp.{Lamp}
 use Rattle.lamp.proofs.Laws.{output-plain, skip-none, version-shows}
 use Rattle.lamp.specs.Code.{blinkAfter, versionAfter}
 use Rattle.packet.specs.Layout.{firstByte, headerIn, reservedIn, secondByte, total, wholeIn}
-use Rattle.packet.specs.Reading.{messageOf, readOf}
+use Rattle.packet.specs.Reading.{messageOf, numberOfFrame, readOf}
 use Rattle.packet.specs.declared.Frame.the-variants as frame
 use Rattle.packet.proofs.Laws as packet
 use Rattle.paddle.specs.Paddle.{down, freshPaddle, pressed}
@@ -49,7 +49,7 @@ use Rattle.switch.specs.Switch.{Event, Plain, Shown, answerOf, answerWith, even
 use Rattle.switch.specs.Events.{SwitchJob, outcomeOf, finished, job, kindOf, plainAfter, jobOfAct, jobOfGuess, jobOfOrder, paddleAt, paddleOf, pressedAt, jobOfPress, refused, replyTo, woken}
 use Rattle.switch.specs.Respond.{respond, startAnswer, startedFrom, wallSwitch}
 use Rattle.promises.specs.Cases.{Bench, Cases, Dark, benchImage, darkImage, packetA, packetB, packetC, packetE, packetFull, packetHalf, replyA, zeros}
-use Rattle.promises.specs.Numbers.{Asks, numberAt, refused as row-refused, wrong-password, wrong-sum}
+use Rattle.promises.specs.Numbers.{Asks, not-read, numberAt, refused as row-refused, wrong-password}
 use Rattle.promises.specs.Ticking.{AtRest, Fades, Shows, blinks, coloursOf, dimmerBy, dimmerIn, modeIn, nextTick, nthTick, repeated, runOf, ticksOf, with48}
 use Rattle.promises.proofs.Jobs.{press-job, receive-job}
 use Rattle.promises.proofs.Numbers.{numbers}
@@ -172,7 +172,7 @@ module _ (s : Switch Plain) (room : ℕ) (enough : 48 ≤ room) (bench : Bench s
 
 e-number : (s : Switch Plain) (room : ℕ) → 48 ≤ room → numberAt s (event room (receive packetE)) ≡ 7
 e-number s room enough =
-    numbers .exactly s (event room (receive packetE)) 7 .1 (row-refused 7 enough (wrong-sum (packet.exactly .answer frame.Sum packetE .0 (reads .e))))
+    numbers .exactly s (event room (receive packetE)) 7 .1 (row-refused 7 enough (not-read 7 (λ z. omega arith) (packet.exactly .number packetE 7 .0 (ap numberOfFrame (reads .e)))))
 
 -- A press moves its paddle as the recogniser says, of a switch of two paddles.
 abbrev Has : Switch Plain → ℕ → Paddle → Type 0

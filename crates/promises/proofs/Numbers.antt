@@ -17,11 +17,12 @@ use Rattle.vault.specs.Product
 use Rattle.vault.specs.Vault.{inSetup, matches}
 use Rattle.vault.specs.declared.Password.{Password}
 use Rattle.vault.proofs.Laws.{equal-matches, matches-equal, respond-done}
-use Rattle.packet.specs.Promises.{Sound}
-use Rattle.packet.specs.Reading.{messageOf, readOf}
+use Rattle.packet.specs.Promises.{ReadRow, Sound}
+use Rattle.packet.specs.Reading.{messageOf, numberOfFrame, readOf}
 use Rattle.packet.specs.declared.Frame.{Frame}
 use Rattle.packet.specs.declared.Frame.the-variants as frame
 use Rattle.packet.specs.declared.Header.{Header}
+use Rattle.packet.specs.Promises as rows
 use Rattle.packet.proofs.Laws as packet
 use Rattle.paddle.specs.Paddle.{freshPaddle}
 use Rattle.paddle.proofs.Laws.{pressed-again, released-again}
@@ -44,7 +45,7 @@ use Rattle.switch.specs.Paddles.{after, turned}
 use Rattle.switch.specs.Events.{SwitchJob, outcomeOf, jobOfDeed, finished, garbled, gestureAt, jobOfGet, job, kindOf, known, jobOfAct, jobOfGuess, jobOfOrder, paddleAt, paddleOf, pressedAt, jobOfPress, jobOfFrame, jobOfBytes, refused, releasedAt, jobOfRelease, jobOfRestart, signalledBy, jobOfTick}
 use Rattle.switch.specs.Respond.{noAnswer, startAnswer, startedFrom, wallSwitch}
 use Rattle.promises.proofs.Jobs.{press-job, release-job}
-use Rattle.promises.specs.Numbers.{AlreadySo, DeedRefused, downAt, Exactly, FourteenExactly, Idle, Numbers, OnlyThese, PacketRefused, RefusalsChangeNothing, Row, StartExactly, Or0Or2, WrongGuess, blackened, done, isGarbled, no-room, not-accepted, numberAt, numberOfStart, refused as row-refused, reserved-bit, too-long, too-short, wrong-length, wrong-password, wrong-sum}
+use Rattle.promises.specs.Numbers.{AlreadySo, DeedRefused, downAt, Exactly, FourteenExactly, Idle, Numbers, OnlyThese, PacketRefused, RefusalsChangeNothing, Row, StartExactly, Or0Or2, WrongGuess, blackened, done, isGarbled, no-room, not-accepted, not-read, numberAt, numberOfStart, refused as row-refused, wrong-password}
 
 -- The number that a job comes to.
 abbrev numberIn : Password → SwitchJob → ℕ
@@ -64,25 +65,34 @@ wrong-guess w guess p m =
     ap (λ (b : Bool). (if b then outcomeOf (opened (p .core)) [] 0 reply.Silence p seen.Hidden else refused 14 p) .shown .answer .number) m
 
 module _ (s : Switch Plain) where
+  unread-number : (bytes : List ℕ) (n : ℕ) → (n ≡ 0 → ⊥) → ReadRow bytes n → numberIn (s .password) (jobOfBytes bytes (s .plain)) ≡ n
+  unfolding jobOfBytes jobOfFrame garbled answerOf answerWith settled
+  unread-number bytes n ne (rows.done h g) = absurd (ne refl)
+  unread-number bytes n ne (rows.too-short g) = rw (packet.only frame.Short bytes g)
+  unread-number bytes n ne (rows.too-long g) = rw (packet.only frame.Long bytes g)
+  unread-number bytes n ne (rows.wrong-length g) = rw (packet.only frame.Length bytes g)
+  unread-number bytes n ne (rows.wrong-sum g) = rw (packet.only frame.Sum bytes g)
+  unread-number bytes n ne (rows.reserved-bit g) = rw (packet.only frame.Reserved bytes g)
+
   -- A row of a packet that holds is what is answered.
   packet-only : (bytes : List ℕ) (n : ℕ) → PacketRefused s bytes n → numberIn (s .password) (jobOfBytes bytes (s .plain)) ≡ n
   unfolding jobOfBytes jobOfFrame jobOfOrder garbled refused jobOfGuess answerOf answerWith settled
-  packet-only bytes n (too-short g) = rw (packet.only frame.Short bytes g)
-  packet-only bytes n (too-long g) = rw (packet.only frame.Long bytes g)
-  packet-only bytes n (wrong-length g) = rw (packet.only frame.Length bytes g)
-  packet-only bytes n (wrong-sum g) = rw (packet.only frame.Sum bytes g)
-  packet-only bytes n (reserved-bit g) = rw (packet.only frame.Reserved bytes g)
+  packet-only bytes n (not-read _ ne row) = unread-number bytes n ne row
   packet-only bytes n (not-accepted h k so r) = rw (packet.only (frame.Read h) bytes so, judge.only (s .plain .registers) (s .plain .core .mode) h (order.Refused k) (messageOf bytes) r)
   packet-only bytes n (wrong-password guess a ne) =
       rw (packet.only (frame.Read (a .header)) bytes (a .sound), judge.only (s .plain .registers) (s .plain .core .mode) (a .header) (order.Open guess) (messageOf bytes) (a .accepted))
       (wrong-guess (s .password) guess (s .plain) (mismatch (s .password) guess ne))
 
+  read-range : (bytes : List ℕ) (n : ℕ) → (n ≡ 0 → ⊥) → ReadRow bytes n → (4 ≤ n) × (n ≤ 8)
+  read-range bytes n ne (rows.done h g) = absurd (ne refl)
+  read-range bytes n ne (rows.too-short g) = omega arith
+  read-range bytes n ne (rows.too-long g) = omega arith
+  read-range bytes n ne (rows.wrong-length g) = omega arith
+  read-range bytes n ne (rows.wrong-sum g) = omega arith
+  read-range bytes n ne (rows.reserved-bit g) = omega arith
+
   packet-range : (bytes : List ℕ) (n : ℕ) → PacketRefused s bytes n → (4 ≤ n) × (n ≤ 14)
-  packet-range bytes n (too-short g) = omega arith
-  packet-range bytes n (too-long g) = omega arith
-  packet-range bytes n (wrong-length g) = omega arith
-  packet-range bytes n (wrong-sum g) = omega arith
-  packet-range bytes n (reserved-bit g) = omega arith
+  packet-range bytes n (not-read _ ne row) = let r = read-range bytes n ne row in (r .0, omega (arith, r .1))
   packet-range bytes n (not-accepted h k so r) =
       let i = judge.only-these k (s .plain .registers) (s .plain .core .mode) h (messageOf bytes) r in
       (omega arith, omega arith)
@@ -115,11 +125,11 @@ module _ (s : Switch Plain) where
     frame-found : (f : Frame) → readOf bytes ≡ f → Found (receive bytes) (numberIn (s .password) (jobOfFrame f (messageOf bytes) (s .plain)))
     unfolding Found jobOfFrame garbled answerOf answerWith settled
     frame-found (frame.Read h) e = order-found h (packet.sound bytes h e) _ refl (h .source) (drop 2 (messageOf bytes))
-    frame-found frame.Short e = inr (too-short (packet.exactly .answer frame.Short bytes .0 e))
-    frame-found frame.Long e = inr (too-long (packet.exactly .answer frame.Long bytes .0 e))
-    frame-found frame.Length e = inr (wrong-length (packet.exactly .answer frame.Length bytes .0 e))
-    frame-found frame.Sum e = inr (wrong-sum (packet.exactly .answer frame.Sum bytes .0 e))
-    frame-found frame.Reserved e = inr (reserved-bit (packet.exactly .answer frame.Reserved bytes .0 e))
+    frame-found frame.Short e = inr (not-read 4 (λ z. omega arith) (packet.exactly .number bytes 4 .0 (ap numberOfFrame e)))
+    frame-found frame.Long e = inr (not-read 5 (λ z. omega arith) (packet.exactly .number bytes 5 .0 (ap numberOfFrame e)))
+    frame-found frame.Length e = inr (not-read 6 (λ z. omega arith) (packet.exactly .number bytes 6 .0 (ap numberOfFrame e)))
+    frame-found frame.Sum e = inr (not-read 7 (λ z. omega arith) (packet.exactly .number bytes 7 .0 (ap numberOfFrame e)))
+    frame-found frame.Reserved e = inr (not-read 8 (λ z. omega arith) (packet.exactly .number bytes 8 .0 (ap numberOfFrame e)))
 
   -- The same of every deed.
   deed-found : (d : Deed) → Found d (numberIn (s .password) (jobOfDeed d (s .plain)))
@@ -177,11 +187,7 @@ exactly s e n = (λ z. subst (λ (k : ℕ). Row s e k) z (row s e), row-only s e
 
 -- 14 by itself.
 fourteen-packet : (s : Switch Plain) (bytes : List ℕ) (n : ℕ) → PacketRefused s bytes n → n ≡ 14 → WrongGuess s (receive bytes)
-fourteen-packet s bytes n (too-short g) e = absurd (omega arith)
-fourteen-packet s bytes n (too-long g) e = absurd (omega arith)
-fourteen-packet s bytes n (wrong-length g) e = absurd (omega arith)
-fourteen-packet s bytes n (wrong-sum g) e = absurd (omega arith)
-fourteen-packet s bytes n (reserved-bit g) e = absurd (omega arith)
+fourteen-packet s bytes n (not-read _ ne row) e = absurd (omega (arith, read-range s bytes n ne row .1))
 fourteen-packet s bytes n (not-accepted h k so r) e =
     let i = judge.only-these k (s .plain .registers) (s .plain .core .mode) h (messageOf bytes) r in
     absurd (omega arith)

@@ -9,9 +9,8 @@ use lib.ListN.{length}
 use Rattle.words.specs.Words.{if_then_else_}
 use Rattle.vault.specs.Job.{Switch, switch}
 use Rattle.lamp.specs.declared.Colour.the-variants.{Black}
-use Rattle.packet.specs.Promises.{Reads, Sound}
+use Rattle.packet.specs.Promises.{ReadRow, Sound}
 use Rattle.packet.specs.Reading.{messageOf}
-use Rattle.packet.specs.declared.Frame.the-variants.{Short, Long, Length, Sum, Reserved}
 use Rattle.packet.specs.declared.Header.{Header}
 use Rattle.paddle.specs.Promises.{touched}
 use Rattle.judge.specs.Promises.{Accepted, Refusal}
@@ -41,11 +40,7 @@ pub record Asks (s : Switch Plain) (bytes : List ℕ) (o : Order) : Type 0 where
 -- The rows 4 to 14 for a received packet: the row's condition, and none of an earlier row. 4 to 8 are the reader's rows, 9 to 13 those of
 -- the judgement of a packet that passes them, and 14 is "Start Setup with a wrong password" that passes all of 4 to 13.
 pub data PacketRefused (s : Switch Plain) (bytes : List ℕ) : ℕ → Type 0 where
-  too-short : Reads Short bytes → PacketRefused s bytes 4
-  too-long : Reads Long bytes → PacketRefused s bytes 5
-  wrong-length : Reads Length bytes → PacketRefused s bytes 6
-  wrong-sum : Reads Sum bytes → PacketRefused s bytes 7
-  reserved-bit : Reads Reserved bytes → PacketRefused s bytes 8
+  not-read : (n : ℕ) → (n ≡ 0 → ⊥) → ReadRow bytes n → PacketRefused s bytes n
   not-accepted : (h : Header) (n : ℕ) → Sound bytes h → Refusal (s .plain .registers) (s .plain .core .mode) h (messageOf bytes) n → PacketRefused s bytes n
   wrong-password : (guess : Password) → Asks s bytes (order.Open guess) → (s .password ≡ guess → ⊥) → PacketRefused s bytes 14
 
