@@ -8,7 +8,7 @@ use Rattle.judge.specs.declared.Order.the-variants as order
 use Rattle.registers.specs.declared.write.Write.{Write}
 use Rattle.registers.specs.declared.write.Write.the-variants.{Nothing, Preset, Values}
 
--- What an order writes and which mode it leaves.
+-- What an order writes; of a state it needs the level alone.
 unfoldable pub orderWrites : Order → Step → Write
 orderWrites (order.Refused n) level = Nothing
 orderWrites (order.Open guess) level = Nothing
@@ -23,6 +23,7 @@ orderWrites (order.Blink value) level = Nothing
 orderWrites order.Report level = Nothing
 orderWrites (order.Store i) level = Preset i (percentOf level)
 
+-- Which mode an order leaves.
 unfoldable pub orderLeads : Order → Mode → Mode
 orderLeads (order.Refused n) mode = mode
 orderLeads (order.Open guess) mode = mode

@@ -28,50 +28,54 @@ core mode dimmer lamp save = record { mode = mode; dimmer = dimmer; lamp = lamp;
 abbrev pub effect : Core → Write → Effect
 effect c write = record { core = c; write = write }
 
+-- An act that writes nothing.
 unfoldable pub unwritten : Core → Effect
 unwritten c = effect c Nothing
 
--- "every 480th tick since start or restart the percent goes to 0xF9"
+-- 01, Paddles, 16: ticks from one save of the level to the next.
 abbrev pub saveTicks : ℕ
 saveTicks = 480
 
--- "Start and restart: .. Normal, .. timers clear (no mode-change flash), level twice the value in 0xF9, or 0 where that value is above 100."
+-- 01, Lamp, start, factory values, 5: the level of a saved percent; off where it is no percent.
 unfoldable pub startLevel : ℕ → Step
 startLevel saved = if ltb 100 saved then off else stepOf (percent saved)
 
+-- 01, Lamp, start, factory values, 5: Normal, at the saved level, all timers clear. The version blinks and the count to the save begin.
 unfoldable pub started : List ℕ → Core
 started all = core Normal (freshDimmer (startLevel (savedIn all))) freshLamp (less saveTicks)
 
--- "Each tick, in order: lamp and output timers, fade or blink .."
+-- 01, Paddles, 16: the first two stages of a tick, lamp with output, then dimmer.
 unfoldable pub aged : Core → Core
 aged c = core (c .mode) (ticked (c .dimmer)) (nextLamp (c .lamp)) (c .save)
 
--- ".. and every 480th tick since start or restart the percent goes to 0xF9."
+-- 01, Paddles, 16: what a tick's last stage writes, which is the percent at each 480th.
 unfoldable pub toSave : Core → Write
 toSave c = if beats (c .save) then Save (percentOf (c .dimmer .level)) else Nothing
 
+-- The last stage of a tick: what is written, and the count to the next save.
 unfoldable pub saved : Core → Effect
 saved c = effect (core (c .mode) (c .dimmer) (c .lamp) (metronome saveTicks (c .save))) (toSave c)
 
--- The core with another dimmer; with a level set, by what 0x8D then says.
+-- The core with another dimmer.
 abbrev pub withDimmer : Dimmer → Core → Core
 withDimmer d c = core (c .mode) d (c .lamp) (c .save)
 
+-- 01, Levels and fades, 6: a level is set by what 0x8D says at that moment.
 unfoldable pub setting : List ℕ → ℕ → ℕ → Core → Core
 setting all level rate c = withDimmer (setTo (c .dimmer) level rate (optionsOf (dimmingIn all))) c
 
--- "Stopping a running fade or blink .."
+-- 01, Levels and fades, 9: a stop.
 unfoldable pub stopping : Core → Core
 stopping c = withDimmer (stopped (c .dimmer)) c
 
--- "After a mode change the output shows .. during 120 ticks"; "Mode blinks count from entry."
+-- 01, Paddles, 10 and 01, Lamp, start, factory values, 2: with a new mode its flash and its blinks begin.
 unfoldable pub entering : Mode → Core → Core
 entering mode c = core mode (c .dimmer) (flashed (c .lamp)) (c .save)
 
--- The lamp's 30-tick blink.
+-- 01, Lamp, start, factory values, 1 (diagnostic): the lamp's signal of a packet begins.
 unfoldable pub signalled : Colour → Core → Core
 signalled hue c = core (c .mode) (c .dimmer) (signalSet hue (c .lamp)) (c .save)
 
--- "Entering Setup adds one to 0xFA."
+-- 01, Paddles, 11: Setup is entered, and 0xFA counts it.
 unfoldable pub opened : Core → Effect
 opened c = effect (entering Setup c) (Count Setups)

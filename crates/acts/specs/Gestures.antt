@@ -1,4 +1,5 @@
--- What a paddle's gesture does by the mode it finds, as document 01 has it under "Paddles". The paddle is known by its number: an even one is a top, an odd one a bottom.
+-- What a paddle's gesture does by the mode it finds (01, Paddles, 6 to 9). The paddle is known by its number: an even one is a top, an odd
+-- one a bottom.
 use mathlib.Core.List.{List}
 use Prim.Native.Nat.{ℕ, _%_}
 use lib.Dec.{eqb}
@@ -17,19 +18,19 @@ use Rattle.acts.specs.Core.{effect, unwritten, setting, stopping, enteri
 use Rattle.acts.specs.declared.Core.{Core}
 use Rattle.acts.specs.declared.Effect.{Effect}
 
--- "1 and 2 set the level from the action table"
+-- 01, Paddles, 6: an action of the table sets its level at its rate.
 unfoldable pub byAction : List ℕ → Action → Core → Core
 byAction all action c = setting all (action .level) (action .rate) c
 
--- "Hold, if capable, sets 100 (top) or 0 (bottom) at the default rate"
+-- 01, Paddles, 7: the percent that a Hold heads for.
 unfoldable pub far : ℕ → ℕ
 far paddle = if eqb (paddle % 2) 0 then 100 else 0
 
+-- 01, Paddles, 7: a Hold, which does nothing to a load that cannot dim. The rate 255 is the default rate.
 unfoldable pub holding : List ℕ → ℕ → Core → Core
 holding all paddle c = if optionsOf (dimmingIn all) .capable then setting all (far paddle) 255 c else c
 
--- "Release stops either way": capable or not.
--- "Normal: 1 and 2 set the level from the action table; 5 enters Setup."
+-- 01, Paddles, 6: one tap and two act by the table, five open Setup.
 unfoldable pub tapsInNormal : List ℕ → ℕ → ℕ → Core → Effect
 tapsInNormal all paddle taps c =
     if eqb taps 1 then unwritten (byAction all (singleIn all paddle) c)
@@ -37,47 +38,52 @@ tapsInNormal all paddle taps c =
     else if eqb taps 5 then opened c
     else unwritten c
 
+-- 01, Paddles, 6 and 7. A Release stops, whether the load can dim or not.
 unfoldable pub actedInNormal : List ℕ → ℕ → Gesture → Core → Effect
 actedInNormal all paddle Nothing c = unwritten c
 actedInNormal all paddle (Taps n) c = tapsInNormal all paddle n c
 actedInNormal all paddle Hold c = unwritten (holding all paddle c)
 actedInNormal all paddle Release c = unwritten (stopping c)
 
--- "Setup: only 2 (to Normal) and 10 (to Factory Default) act."
+-- 01, Paddles, 8: two taps leave Setup, ten set the factory values.
 unfoldable pub tapsInSetup : ℕ → Core → Effect
 tapsInSetup taps c =
     if eqb taps 2 then unwritten (entering Normal c)
     else if eqb taps 10 then effect (entering Factory c) FactoryValues
     else unwritten c
 
+-- 01, Paddles, 8: nothing but taps acts in Setup.
 unfoldable pub actedInSetup : Gesture → Core → Effect
 actedInSetup Nothing c = unwritten c
 actedInSetup (Taps n) c = tapsInSetup n c
 actedInSetup Hold c = unwritten c
 actedInSetup Release c = unwritten c
 
--- "Factory Default: 2 returns to Normal, the rest as Normal except that 5 does nothing."
+-- 01, Paddles, 9: two taps leave Factory Default, one acts as in Normal, five do nothing.
 unfoldable pub tapsInFactory : List ℕ → ℕ → ℕ → Core → Effect
 tapsInFactory all paddle taps c =
     if eqb taps 1 then unwritten (byAction all (singleIn all paddle) c)
     else if eqb taps 2 then unwritten (entering Normal c)
     else unwritten c
 
+-- 01, Paddles, 9: Hold and Release act as in Normal.
 unfoldable pub actedInFactory : List ℕ → ℕ → Gesture → Core → Effect
 actedInFactory all paddle Nothing c = unwritten c
 actedInFactory all paddle (Taps n) c = tapsInFactory all paddle n c
 actedInFactory all paddle Hold c = unwritten (holding all paddle c)
 actedInFactory all paddle Release c = unwritten (stopping c)
 
+-- What a gesture does in each mode.
 unfoldable pub actedIn : Mode → List ℕ → ℕ → Gesture → Core → Effect
 actedIn Normal all paddle g c = actedInNormal all paddle g c
 actedIn Setup all paddle g c = actedInSetup g c
 actedIn Factory all paddle g c = actedInFactory all paddle g c
 
+-- The mode meant is the one that the gesture finds.
 unfoldable pub acted : List ℕ → ℕ → Gesture → Core → Effect
 acted all paddle g c = actedIn (c .mode) all paddle g c
 
--- What a gesture writes and which mode it leaves, by the mode it finds: nothing of either depends on anything else.
+-- What a gesture writes, by the mode that it finds and by nothing else.
 unfoldable pub writes : Mode → Gesture → Write
 writes Normal Nothing = Unwritten
 writes Normal (Taps n) = if eqb n 5 then Count Setups else Unwritten
@@ -89,6 +95,7 @@ writes Setup Hold = Unwritten
 writes Setup Release = Unwritten
 writes Factory g = Unwritten
 
+-- Which mode a gesture leaves, by the mode that it finds and by nothing else.
 unfoldable pub leads : Mode → Gesture → Mode
 leads Normal Nothing = Normal
 leads Normal (Taps n) = if eqb n 5 then Setup else Normal

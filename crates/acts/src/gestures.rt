@@ -53,7 +53,7 @@ fn in_factory(core: Core, all: &[u8; 256], paddle: u8, gesture: Gesture) -> Effe
     }
 }
 
-// 1 and 2 set the level from the action table; 5 enters Setup.
+// Normal: one tap and two act by the action table, five open Setup.
 fn taps_in_normal(core: Core, all: &[u8; 256], paddle: u8, taps: u8) -> Effect
     ensures { λ r. ⌜ r ≡ tapsInNormal (now (all .entry)) paddle taps core ⌝ }
 {
@@ -69,7 +69,7 @@ fn taps_in_normal(core: Core, all: &[u8; 256], paddle: u8, taps: u8) -> Effect
     core.unwritten()
 }
 
-// Only 2 and 10 act.
+// Setup: two taps leave it, ten set the factory values.
 fn taps_in_setup(core: Core, taps: u8) -> Effect
     ensures { λ r. ⌜ r ≡ tapsInSetup taps core ⌝ }
 {
@@ -85,7 +85,7 @@ fn taps_in_setup(core: Core, taps: u8) -> Effect
     core.unwritten()
 }
 
-// 2 returns to Normal; 5 does nothing.
+// Factory Default: one tap acts as in Normal, two leave it.
 fn taps_in_factory(core: Core, all: &[u8; 256], paddle: u8, taps: u8) -> Effect
     ensures { λ r. ⌜ r ≡ tapsInFactory (now (all .entry)) paddle taps core ⌝ }
 {
@@ -104,7 +104,7 @@ fn doing(core: Core, all: &[u8; 256], action: Action) -> Core
     core.setting(all, action.level, action.rate)
 }
 
-// Hold, if capable, sets full or off at the default rate.
+// A Hold fades to full or off at the default rate, where the load can dim.
 fn holding(core: Core, all: &[u8; 256], paddle: u8) -> Core
     ensures { λ r. ⌜ r ≡ holding (now (all .entry)) paddle core ⌝ }
 {

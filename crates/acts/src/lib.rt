@@ -46,7 +46,7 @@ impl Core {
         }
     }
 
-    // The first half of a tick: lamp and output timers, fade or blink.
+    // The first two stages of a tick: the lamp with the output, then the dimmer.
     pub fn aged(mut self) -> Core
         ensures { λ r. ⌜ r ≡ aged self ⌝ }
     {
@@ -55,7 +55,7 @@ impl Core {
         self
     }
 
-    // The end of a tick.
+    // The last stage of a tick: the save, where it is due.
     pub fn saved(mut self) -> Effect
         ensures { λ r. ⌜ r ≡ saved self ⌝ }
     {
@@ -122,7 +122,7 @@ impl Core {
         }
     }
 
-    // Setup is entered.
+    // Setup is entered, and 0xFA counts it.
     pub fn opened(self) -> Effect
         ensures { λ r. ⌜ r ≡ opened self ⌝ }
     {

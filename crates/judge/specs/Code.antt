@@ -28,7 +28,7 @@ numberOfOrder (order.Blink value) = 0
 numberOfOrder order.Report = 0
 numberOfOrder (order.Store i) = 0
 
--- What holds where an answer is given: its row of the table, or its command's sentence.
+-- What holds where an order is answered: its row of 01's table of numbers, or what its command asks of the packet.
 abbrev pub Judged : Order → List ℕ → Mode → Header → List ℕ → Type 0
 Judged (order.Refused n) all mode h m = Refusal all mode h m n
 Judged (order.Open guess) all mode h m = Accepted (order.Open guess) all mode h m
@@ -43,16 +43,17 @@ Judged (order.Blink value) all mode h m = Accepted (order.Blink value) all mode 
 Judged order.Report all mode h m = Accepted order.Report all mode h m
 Judged (order.Store i) all mode h m = Accepted (order.Store i) all mode h m
 
--- Each answer is given exactly when document 01 says.
+-- Each order is answered exactly where that holds.
 abbrev pub JudgedExactly : Type 0
 JudgedExactly = (o : Order) (all : List ℕ) (mode : Mode) (h : Header) (m : List ℕ) → (judged all mode h m ≡ o) ↔ Judged o all mode h m
 
--- "Given exactly when", for the numbers: a number other than 0 is given exactly when its row says, and only 9 to 13 have one.
+-- 01, Answer numbers, heading of the table: a number other than 0 is given if and only if its row holds.
 abbrev pub NumberExactly : Type 0
 NumberExactly =
     (n : ℕ) (all : List ℕ) (mode : Mode) (h : Header) (m : List ℕ) → (n ≡ 0 → ⊥)
     → (numberOfOrder (judged all mode h m) ≡ n) ↔ Refusal all mode h m n
 
+-- Only 9 to 13 have a row here.
 abbrev pub OnlyNineTo13 : Type 0
 OnlyNineTo13 = (n : ℕ) (all : List ℕ) (mode : Mode) (h : Header) (m : List ℕ) → Refusal all mode h m n → (9 ≤ n) × (n ≤ 13)
 
@@ -73,5 +74,6 @@ pub record Examples (all : List ℕ) (mode : Mode) (h : Header) : Type 0 where
   pub status-reply : (rest : List ℕ) → judged all mode h (0x86 ∷ rest) ≡ order.Refused 11
   pub registers-reply : (rest : List ℕ) → judged all mode h (0x90 ∷ rest) ≡ order.Refused 11
 
+-- The examples hold for every such packet.
 abbrev pub ChecksInOrder : Type 0
 ChecksInOrder = (all : List ℕ) (mode : Mode) (h : Header) → Reached all h → Examples all mode h

@@ -21,31 +21,34 @@ use Rattle.judge.specs.declared.Verb.the-variants.{Open, Close, Get, Set
 use Rattle.judge.specs.declared.Order.{Order}
 use Rattle.judge.specs.declared.Order.the-variants as order
 
--- 9: "network is neither 0 nor register 0x00"
+-- 01, Answer numbers, row 9: network 0 and our own are heard.
 unfoldable pub heard : List ℕ → ℕ → Bool
 heard all network = eqb network 0 || eqb network (networkIn all)
 
--- 10: "direct: destination neither 0 nor register 0x01; link: no matching component"
+-- 01, Answer numbers, row 10: a direct packet is for every unit (destination 0), for us or for nobody here.
 unfoldable pub directly : List ℕ → ℕ → Target
 directly all destination =
     if eqb destination 0 then Everyone
     else if eqb destination (unitIn all) then Us
     else Nobody
 
+-- 01, Answer numbers, row 10: a link packet is for the matching component, or for nobody here.
 abbrev pub matching : Found → Target
 matching (At i) = Component i
 matching Nowhere = Nobody
 
+-- Whom a packet is for, by its kind.
 unfoldable pub targetOf : List ℕ → Header → Target
 targetOf all header = if header .link then matching (found all (header .destination)) else directly all (header .destination)
 
+-- 01, Answer numbers, row 10: refused is what is for nobody here.
 abbrev pub reached : Target → Bool
 reached Nobody = false
 reached Everyone = true
 reached Us = true
 reached (Component i) = true
 
--- 11: "command not listed"
+-- 01, Commands, 1 to 4: the number of each command.
 unfoldable pub verbOf : ℕ → Verb
 verbOf command =
     if eqb command 0x03 then Open
@@ -62,6 +65,7 @@ verbOf command =
     else if eqb command 0x31 then Store
     else Unlisted
 
+-- 01, Answer numbers, row 11: refused is a number that no command has.
 abbrev pub listed : Verb → Bool
 listed Open = true
 listed Close = true
@@ -77,7 +81,7 @@ listed Report = true
 listed Store = true
 listed Unlisted = false
 
--- The message is the command, then its arguments: argument 0 is the command itself. Past the end there is nothing, which reads as 0.
+-- The i-th argument; 0 is the command itself, which the message begins with. Past the message's end it reads as 0.
 abbrev pub argument : List ℕ → ℕ → ℕ
 argument message i = getD message i 0
 
@@ -85,11 +89,11 @@ argument message i = getD message i 0
 abbrev pub optional : List ℕ → ℕ → ℕ → ℕ
 optional message i missing = getD message i missing
 
--- 12: "wrong argument count or register range"
+-- 01, Answer numbers, row 12: at least and at most so many arguments.
 unfoldable pub arguments : List ℕ → ℕ → ℕ → Bool
 arguments message least most = ltb least (length message) && leb (length message) (most + 1)
 
--- "0x10 Get Registers (first, count 1 to 16)"; "0x11 Set Registers (first, 1 to 16 values)"; "A range past 0xFF is 12."
+-- 01, Commands, 3 and 6: 1 to 16 registers, none past 0xFF.
 unfoldable pub registersInRange : ℕ → ℕ → Bool
 registersInRange first count = leb 1 count && (leb count 16 && leb (first + count) 256)
 
@@ -97,7 +101,8 @@ registersInRange first count = leb 1 count && (leb count 16 && leb (first + coun
 abbrev pub values : List ℕ → ℕ
 values message = length message - 2
 
--- "two password bytes"; "level, optional rate"; "optional value"; "0x04, 0x20, 0x21, 0x24, 0x30 and 0x31 take no arguments."
+-- 01, Commands, 2, 3 and 5: Start Setup takes two bytes, Get a first register and a count, Set a first register and values, Goto and Fade
+-- Start a level and perhaps a rate, Blink perhaps a value; the other six take nothing.
 unfoldable pub suits : Verb → List ℕ → Bool
 suits Open message = arguments message 2 2
 suits Close message = arguments message 0 0
@@ -113,32 +118,35 @@ suits Report message = arguments message 0 0
 suits Store message = arguments message 0 0
 suits Unlisted message = false
 
--- 13: "not permitted here": by the packet's kind and destination ..
+-- 01, Commands, 3: direct, to our own unit and not to 0.
 abbrev pub toUs : Target → Bool
 toUs Nobody = false
 toUs Everyone = false
 toUs Us = true
 toUs (Component i) = false
 
+-- 01, Commands, 4: direct, to our own unit or to 0.
 abbrev pub directTo : Target → Bool
 directTo Nobody = false
 directTo Everyone = true
 directTo Us = true
 directTo (Component i) = false
 
+-- 01, Commands, 1: by link.
 abbrev pub byLink : Target → Bool
 byLink Nobody = false
 byLink Everyone = false
 byLink Us = false
 byLink (Component i) = true
 
--- .. by the mode ..
+-- 01, Commands, 3: Start Setup is for Normal alone.
 abbrev pub isNormal : Mode → Bool
 isNormal Normal = true
 isNormal Setup = false
 isNormal Factory = false
 
--- .. by the load ("Fade Start is 13 if not capable"), and "a request that needs [a reply] from source 0 is 13".
+-- 01, Answer numbers, row 13. What decides is the packet's kind and destination (01, Commands, 1 to 4 and 7), the mode (3 and 4), for Fade
+-- Start a load that can dim (2), and where a reply is due a source other than 0 (8).
 unfoldable pub permitted : Verb → Target → Mode → ℕ → Bool → Bool
 permitted Open target mode source capable = toUs target && isNormal mode
 permitted Close target mode source capable = directTo target && inSetup mode
@@ -154,15 +162,15 @@ permitted Report target mode source capable = toUs target && ltb 0 source
 permitted Store target mode source capable = byLink target
 permitted Unlisted target mode source capable = false
 
--- The component that a link packet reaches.
+-- The component that a link packet reaches; 0 for the rest, whose orders name none.
 abbrev pub componentOf : Target → ℕ
 componentOf Nobody = 0
 componentOf Everyone = 0
 componentOf Us = 0
 componentOf (Component i) = i
 
--- The command with its arguments. "A missing rate, or one above 15, is the default rate": 255 stands for it. A Blink's "value missing or 0
--- means 30": 0 stands for it. Goto and Fade Start ask for the same.
+-- The command with its arguments. A missing rate is 255, which means the default rate (01, Levels and fades, 4); a Blink's missing value is
+-- 0, which means 30 (10). Goto and Fade Start ask for the same.
 unfoldable pub ordered : Verb → Target → List ℕ → Order
 ordered Open target message = order.Open (password (argument message 1) (argument message 2))
 ordered Close target message = order.Close
@@ -178,7 +186,7 @@ ordered Report target message = order.Report
 ordered Store target message = order.Store (componentOf target)
 ordered Unlisted target message = order.Refused 11
 
--- "Checks run in this order: .. 4 to 14 rising."
+-- 01, Answer numbers, 1: the checks 9 to 13, rising. 14 comes with the password.
 unfoldable pub judged : List ℕ → Mode → Header → List ℕ → Order
 judged all mode header message =
     let target = targetOf all header in

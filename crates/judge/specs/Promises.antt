@@ -19,34 +19,37 @@ use Rattle.judge.specs.declared.Order.{Order}
 use Rattle.judge.specs.declared.Order.the-variants as order
 use Rattle.judge.specs.Judge.{argument, values, verbOf}
 
--- 9: "network is neither 0 nor register 0x00"
+-- 01, Answer numbers, row 9: another network than 0 and our own.
 abbrev pub Unheard : List ℕ → Header → Type 0
 Unheard all h = (h .network ≡ 0 → ⊥) × (h .network ≡ networkIn all → ⊥)
 
--- 10: "direct: destination neither 0 nor register 0x01; link: no matching component"
+-- 01, Answer numbers, row 10: by its destination, a direct packet is neither for all units nor for ours, a link packet for no component.
 abbrev pub NotFor : Bool → List ℕ → ℕ → Type 0
 NotFor false all destination = (destination ≡ 0 → ⊥) × (destination ≡ unitIn all → ⊥)
 NotFor true all destination = found all destination ≡ Nowhere
 
+-- 01, Answer numbers, row 10, of a header.
 abbrev pub Unreached : List ℕ → Header → Type 0
 Unreached all h = NotFor (h .link) all (h .destination)
 
--- 11: "command not listed"
+-- 01, Commands, 1 to 4: the numbers of the twelve commands.
 abbrev pub commands : List ℕ
 commands = 0x03 ∷ 0x04 ∷ 0x10 ∷ 0x11 ∷ 0x20 ∷ 0x21 ∷ 0x22 ∷ 0x23 ∷ 0x24 ∷ 0x25 ∷ 0x30 ∷ 0x31 ∷ []
 
+-- 01, Answer numbers, row 11, of that list: n is none of it.
 abbrev pub NoneOf : List ℕ → ℕ → Type 0
 NoneOf [] n = Unit {0}
 NoneOf (k ∷ ks) n = (n ≡ k → ⊥) × NoneOf ks n
 
--- 12: "wrong argument count or register range" is where this does not hold. At least and at most so many arguments ..
+-- At least and at most so many arguments.
 abbrev pub Takes : ℕ → ℕ → List ℕ → Type 0
 Takes least most m = (least < length m) × (length m ≤ most + 1)
 
--- .. and "count 1 to 16", "A range past 0xFF is 12".
+-- 01, Commands, 3 and 6: 1 to 16 registers, none past 0xFF.
 abbrev pub Range : ℕ → ℕ → Type 0
 Range first count = (1 ≤ count) × ((count ≤ 16) × (first + count ≤ 256))
 
+-- 01, Answer numbers, row 12, is where this does not hold: the arguments of each command (01, Commands, 2, 3 and 5).
 abbrev pub Suits : Verb → List ℕ → Type 0
 Suits Open m = Takes 2 2 m
 Suits Close m = Takes 0 0 m
@@ -62,18 +65,20 @@ Suits Report m = Takes 0 0 m
 Suits Store m = Takes 0 0 m
 Suits Unlisted m = ⊥
 
--- 13: "not permitted here" is where this does not hold. "Direct to our own nonzero unit only (destination 0 is 13)" ..
+-- 01, Commands, 3: direct, to our own unit and not to 0.
 abbrev pub ToUs : List ℕ → Header → Type 0
 ToUs all h = (h .link ≡ false) × ((h .destination ≡ unitIn all) × (h .destination ≡ 0 → ⊥))
 
--- .. "a request that needs [a reply] from source 0 is 13" ..
+-- 01, Commands, 8: to us, from a source that a reply can go to.
 abbrev pub AskedToReply : List ℕ → Header → Type 0
 AskedToReply all h = ToUs all h × (h .source ≡ 0 → ⊥)
 
--- .. and "Fade Start is 13 if not capable".
+-- 01, Commands, 2: a load that can dim, as Fade Start needs it.
 abbrev pub Capable : List ℕ → Type 0
 Capable all = optionsOf (dimmingIn all) .capable ≡ true
 
+-- 01, Answer numbers, row 13, is where this does not hold: for each command its kind of packet, its mode and what else it needs (01,
+-- Commands, 1 to 4, 7 and 8).
 abbrev pub Permitted : Verb → List ℕ → Mode → Header → Type 0
 Permitted Open all mode h = ToUs all h × (mode ≡ Normal)
 Permitted Close all mode h = (h .link ≡ false) × (mode ≡ Setup)
@@ -89,19 +94,19 @@ Permitted Report all mode h = AskedToReply all h
 Permitted Store all mode h = h .link ≡ true
 Permitted Unlisted all mode h = ⊥
 
--- passes 9 and 10
+-- The packet passes 9 and 10.
 abbrev pub Reached : List ℕ → Header → Type 0
 Reached all h = (Unheard all h → ⊥) × (Unreached all h → ⊥)
 
--- passes 9 to 11
+-- It passes 9 to 11.
 abbrev pub Listed : List ℕ → Header → List ℕ → Type 0
 Listed all h m = Reached all h × (NoneOf commands (argument m 0) → ⊥)
 
--- passes 9 to 12
+-- It passes 9 to 12.
 abbrev pub Suited : List ℕ → Header → List ℕ → Type 0
 Suited all h m = Listed all h m × Suits (verbOf (argument m 0)) m
 
--- The rows of the table: the row's condition, and none of an earlier row.
+-- 01, Answer numbers, rows 9 to 13: the row's condition and, since the checks rise (01, Answer numbers, 1), none of an earlier row.
 pub data Refusal (all : List ℕ) (mode : Mode) (h : Header) (m : List ℕ) : ℕ → Type 0 where
   wrong-network : Unheard all h → Refusal all mode h m 9
   not-ours : (Unheard all h → ⊥) → Unreached all h → Refusal all mode h m 10
@@ -113,7 +118,7 @@ pub data Refusal (all : List ℕ) (mode : Mode) (h : Header) (m : List ℕ) : �
 abbrev pub ByLink : ℕ → List ℕ → Header → Type 0
 ByLink i all h = (h .link ≡ true) × (found all (h .destination) ≡ At i)
 
--- The packets by which an order can come: by link, direct to our own unit, direct (destination 0 too), or any.
+-- 01, Commands, 1 to 4: the packets by which an order can come: by link, direct to our own unit, direct (destination 0 too), or any.
 abbrev pub Comes : Order → List ℕ → Header → Type 0
 Comes (order.Refused n) all h = ⊥
 Comes (order.Open guess) all h = ToUs all h
@@ -128,7 +133,7 @@ Comes (order.Blink value) all h = Unit {0}
 Comes order.Report all h = AskedToReply all h
 Comes (order.Store i) all h = ByLink i all h
 
--- The modes in which it can come: "13 unless Normal", "only in Setup", or any.
+-- 01, Commands, 3 and 4: the modes in which it can come: Start Setup in Normal, Set and Stop Setup in Setup, the rest in any.
 abbrev pub When : Order → Mode → Type 0
 When (order.Refused n) mode = ⊥
 When (order.Open guess) mode = mode ≡ Normal
@@ -143,11 +148,11 @@ When (order.Blink value) mode = Unit {0}
 When order.Report mode = Unit {0}
 When (order.Store i) mode = Unit {0}
 
--- "level, optional rate"
+-- 01, Commands, 2: a command's level with its rate, or without: then the rate is 255.
 abbrev pub Level : ℕ → ℕ → ℕ → List ℕ → Type 0
 Level command level rate m = (m ≡ command ∷ level ∷ rate ∷ []) ⊎ ((m ≡ command ∷ level ∷ []) × (rate ≡ 255))
 
--- The messages that ask for it.
+-- 01, Commands, 1 to 4: the messages that ask for it.
 abbrev pub Says : Order → List ℕ → List ℕ → Type 0
 Says (order.Refused n) all m = ⊥
 Says (order.Open guess) all m = m ≡ 0x03 ∷ guess .0 ∷ guess .1 ∷ []

@@ -1,4 +1,5 @@
-// What a packet asks for: the checks 9 to 13 in their order, and the command with its arguments taken apart. It sees no password.
+// What a packet asks for: the checks 9 to 13 in their order, and the command with its arguments taken apart. The
+// switch's own password does not come here.
 ghost use mathlib.Core.Path.{_≡_};
 ghost use Rattle.vault.specs.Vault.{inSetup};
 ghost use Rattle.judge.specs.Judge.{heard, directly, matching, targetOf, reached, verbOf, listed, argument, arguments, registersInRange, values, suits, toUs, directTo, byLink, isNormal, permitted, componentOf, optional, ordered, judged};
@@ -16,7 +17,7 @@ pub enum Target {
     Component(u8),
 }
 
-// The listed commands. Open and Close are Start and Stop Setup, Store is Store Preset.
+// The commands. Open and Close are Start and Stop Setup, Store is Store Preset; Unlisted is every number that is none.
 pub enum Verb {
     Open,
     Close,

@@ -20,25 +20,27 @@ use Rattle.post.specs.declared.Note.{Note}
 use Rattle.post.specs.Post.{header, enveloped, bytesOf, gestureMessage, placedOne, place, announced, replied, placed}
 use Rattle.post.specs.declared.Reply.the-variants.{Status}
 
--- A link packet still to be laid; and none.
+-- A link packet still to be laid.
 abbrev pub note : ℕ → ℕ → ℕ → Message → Note
 note network source destination message =
     record { network = network; source = source; destination = destination; message = message }
 
+-- Nothing to be laid: the message is empty.
 abbrev pub noNote : Note
 noNote = note 0 0 0 Empty
 
--- The note of a gesture: the same packet, with network, source and link as the registers then stand.
+-- The note of a gesture, with network, source and link as the registers then stand.
 unfoldable pub noteOf : List ℕ → Mode → ℕ → Gesture → Percent → Note
 noteOf all mode paddle g percent =
     if valid (transmitIn all paddle .link)
     then note (networkIn all) (unitIn all) (transmitIn all paddle .link) (gestureMessage all mode paddle g percent)
     else noNote
 
--- The packets of a note, one or none.
+-- The header of a note's packet.
 abbrev pub noteHeader : Note → Header
 noteHeader n = header true (n .network) (n .destination) (n .source)
 
+-- The packets of a note, one or none.
 unfoldable pub sentOf : Note → List (List ℕ)
 sentOf n = enveloped (noteHeader n) (bytesOf (n .message))
 
@@ -56,6 +58,7 @@ pub record Laid (sent : List (List ℕ)) (before : List ℕ) (answer : ℕ) (aft
   pub answered : answer ≡ laidLength (front sent) (length before)
   pub bytes : after ≡ placedOne (front sent) before
 
+-- A whole buffer after a packet is laid into the place that begins at byte k.
 unfoldable pub placedAt : ℕ → List ℕ → List ℕ → List ℕ
 placedAt k p before = take k before ++ (placedOne p (take place (drop k before)) ++ drop place (drop k before))
 
@@ -78,7 +81,7 @@ NotesInOrder =
     → placedAt (if eqb (length (front (sentOf first))) 0 then 0 else place) (front (sentOf second)) (placedAt 0 (front (sentOf first)) before)
     ≡ placed (sentOf first ++ sentOf second) before
 
--- "(a) .. is answered by 08 00 01 09 05 86 28 3B": network 1, unit 5, 40 percent, from sender 9.
+-- 01, Numbers to test by, 2 (a), the reply: network 1, unit 5, 40 percent, to sender 9.
 abbrev pub CaseA : Type 0
 CaseA =
     (all : List ℕ) (seen : Seen) → networkIn all ≡ 1 → unitIn all ≡ 5

@@ -1,4 +1,4 @@
--- What a switch sends: a paddle's link packet and a reply, as document 01 has them under "Paddles", "Commands" and "Packet layout".
+-- What a switch sends: a paddle's link packet and a reply (01, Paddles, 12 to 15; 01, Commands, 3 and 8), and where it is laid.
 use mathlib.Core.Bool.{Bool, true, false, not, _||_}
 use mathlib.Core.List.{List, [], _∷_, _++_}
 use Prim.Native.Nat.{ℕ, _%_, min}
@@ -22,7 +22,7 @@ use Rattle.post.specs.declared.Message.the-variants.{Empty, One, Two, Th
 use Rattle.post.specs.declared.Reply.{Reply}
 use Rattle.post.specs.declared.Reply.the-variants.{Silence, Status, Registers}
 
--- "Packets sent by the switch have reserved, request, count and sequence bits 0"; the repeat request is 0 too.
+-- 01, Packet layout (H), 5: a sent header asks for nothing: request, count and sequence are 0, and so is repeat (decision 45).
 abbrev pub header : Bool → ℕ → ℕ → ℕ → Header
 header link network destination source =
     record {
@@ -36,7 +36,7 @@ header link network destination source =
       source = source;
     }
 
--- ".. network from 0x00, source from 0x01."
+-- 01, Packet layout (H), 5: network and source are our own.
 abbrev pub headed : List ℕ → Bool → ℕ → Header
 headed all link destination = header link (networkIn all) destination (unitIn all)
 
@@ -45,10 +45,11 @@ unfoldable pub enveloped : Header → List ℕ → List (List ℕ)
 enveloped h [] = []
 enveloped h (byte ∷ bytes) = packed h (byte ∷ bytes) ∷ []
 
--- "15 none; 14 the message 0x86 with the percent"
+-- 01, Paddles, 13: the number that sends nothing.
 abbrev pub noCommand : ℕ
 noCommand = 15
 
+-- 01, Paddles, 13: the number that sends the percent.
 abbrev pub report : ℕ
 report = 14
 
@@ -59,25 +60,24 @@ bytesOf (One command) = command ∷ []
 bytesOf (Two command first) = command ∷ first ∷ []
 bytesOf (Three command first second) = command ∷ first ∷ second ∷ []
 
--- "each single, double, Hold and Release": the command number that the paddle's transmit component has for the gesture. The number
--- of a double is handed in.
+-- 01, Paddles, 12: the command number of a gesture, one for each of the four that send. That of a double is handed in.
 unfoldable pub gestureNumber : Transmit → ℕ → Gesture → ℕ
 gestureNumber t double Nothing = noCommand
 gestureNumber t double (Taps taps) = if eqb taps 1 then t .single else if eqb taps 2 then double else noCommand
 gestureNumber t double Hold = t .hold
 gestureNumber t double Release = t .release
 
--- ".. outside Setup, but no double in Factory Default"
+-- 01, Paddles, 12: no gesture sends in Setup, and no double in Factory Default.
 unfoldable pub commandNumber : Mode → Transmit → Gesture → ℕ
 commandNumber Normal t g = gestureNumber t (t .double) g
 commandNumber Setup t g = noCommand
 commandNumber Factory t g = gestureNumber t noCommand g
 
--- ".. the first argument of 0x22 and 0x23, where 255 is a level."
+-- 01, Paddles, 15: Goto and Fade Start, whose first argument is a level, 255 too.
 unfoldable pub takesLevel : ℕ → Bool
 takesLevel command = eqb command 0x22 || eqb command 0x23
 
--- "First byte 255 sends nothing. Trailing arguments of 255 are left off, except .."
+-- 01, Paddles, 14 and 15: an entry is silent if it begins with 255; else the 255s at its end are dropped, but a level.
 unfoldable pub trimmed : Entry → Message
 trimmed e =
     if eqb (e .command) 255 then Empty
@@ -86,11 +86,11 @@ trimmed e =
     else if takesLevel (e .command) then Two (e .command) (e .first)
     else One (e .command)
 
--- "0x86, percent"
+-- 01, Commands, 3 (0x30): the message that tells the percent.
 abbrev pub status : Percent → Message
 status percent = Two 0x86 (percent .0)
 
--- "Low four bits of the command number: 15 none; 14 the message 0x86 with the percent; otherwise the table entry."
+-- 01, Paddles, 13: what the low four bits of a command number stand for.
 unfoldable pub chosen : List ℕ → ℕ → Percent → Message
 chosen all number percent =
     if eqb (number % 16) noCommand then Empty
@@ -101,37 +101,36 @@ chosen all number percent =
 unfoldable pub gestureMessage : List ℕ → Mode → ℕ → Gesture → Percent → Message
 gestureMessage all mode paddle g percent = chosen all (commandNumber mode (transmitIn all paddle) g) percent
 
--- ".. then transmits a link packet when the component's link is valid; the mode meant is the one the event finds, before it
--- acts." The percent is the one after the act.
+-- 01, Paddles, 12: a link packet, if the component has a valid link. The mode is the one before the gesture acts, the percent the one after.
 unfoldable pub announced : List ℕ → Mode → ℕ → Gesture → Percent → List (List ℕ)
 announced all mode paddle g percent =
     if valid (transmitIn all paddle .link)
     then enveloped (headed all true (transmitIn all paddle .link)) (bytesOf (gestureMessage all mode paddle g percent))
     else []
 
--- "reply 0x90, first, values": at most 16 values.
+-- 01, Commands, 3 (0x10): the message that tells registers, 16 at most.
 unfoldable pub valuesFrom : List ℕ → Seen → ℕ → ℕ → List ℕ
 valuesFrom all seen first count = 0x90 ∷ first ∷ rangeOf all seen first (min 16 count)
 
--- "0x10 Get Registers (.. reply 0x90, first, values)", "0x30 Report Status (reply 0x86, percent)".
+-- 01, Commands, 3 (0x10, 0x30): the message of each reply.
 unfoldable pub replyMessage : List ℕ → Seen → Reply → Percent → List ℕ
 replyMessage all seen Silence percent = []
 replyMessage all seen Status percent = bytesOf (status percent)
 replyMessage all seen (Registers first count) percent = valuesFrom all seen first count
 
--- "Replies go to the sender": the direct packets of a reply, one or none.
+-- 01, Commands, 8: the direct packets of a reply, one or none, to the one who asked.
 unfoldable pub replied : List ℕ → Seen → ℕ → Reply → Percent → List (List ℕ)
 replied all seen to reply percent = enveloped (headed all false to) (replyMessage all seen reply percent)
 
--- The bytes of a place after a packet is laid at its front: "other bytes keep their values".
+-- 01, Events and time, 6: a place with a packet laid at its front; the bytes behind it are kept, and all of them if it does not fit.
 unfoldable pub placedOne : List ℕ → List ℕ → List ℕ
 placedOne p before = if ltb (length before) (length p) then before else p ++ drop (length p) before
 
--- "two places of 24": a whole buffer after a packet is laid into the place that begins at a byte of it.
+-- 01, Events and time, 5: the bytes of a place.
 abbrev pub place : ℕ
 place = 24
 
--- "Packets sent fill the places in order"
+-- 01, Events and time, 6: a buffer with the first packet in the first place, the next in the next.
 unfoldable pub placed : List (List ℕ) → List ℕ → List ℕ
 placed [] before = before
 placed (p ∷ rest) before = placedOne p (take place before) ++ placed rest (drop place before)

@@ -1,5 +1,5 @@
--- What is promised of sending beyond the single functions: our own reader takes every packet sent, what a paddle never sends, what a
--- reply never shows, how packets fill the places, and the worked cases.
+-- What is promised of sending beyond the single functions: our own reader takes every packet sent, what a paddle never sends, what no
+-- packet shows of the password's places, and case (j).
 use mathlib.Core.Bool.{true, false}
 use mathlib.Core.List.{List, [], _∷_}
 use mathlib.Core.Path.{_≡_}
@@ -23,7 +23,7 @@ use Rattle.post.specs.declared.Reply.{Reply}
 use Rattle.post.specs.declared.Reply.the-variants.{Registers}
 use Rattle.post.specs.Post.{headed, bytesOf, trimmed, commandNumber, gestureMessage, announced, replyMessage, replied}
 
--- every packet of a list
+-- Something holds of every packet of a list.
 abbrev pub Each : (List ℕ → Type 0) → List (List ℕ) → Type 0
 Each P [] = Unit {0}
 Each P (p ∷ rest) = P p × Each P rest
@@ -60,8 +60,8 @@ pub record Announces (all : List ℕ) (paddle : ℕ) (p : Percent) : Type 0 wher
   pub unlinked : (mode : Mode) (g : Gesture) → transmitIn all paddle .link ≡ 0 → announced all mode paddle g p ≡ []
   pub unused : (mode : Mode) (g : Gesture) → transmitIn all paddle .link ≡ 255 → announced all mode paddle g p ≡ []
 
--- "Outside Setup, Get Registers sends 0 for 0x02 and 0x03": 0 goes out for each of the two places, wherever the range starts, and
--- nothing that is sent depends on what the array holds there.
+-- 01, Commands, 9: seen from outside Setup, each of the two places reads as 0, wherever the range starts; and nothing that is sent depends on
+-- what the array holds there.
 pub record Hides : Type 0 where
   pub zero : (all : List ℕ) (first count i : ℕ) (p : Percent) → i < min 16 count → secret (first + i) ≡ true
       → getD (replyMessage all Hidden (Registers first count) p) (suc (suc i)) 0 ≡ 0
@@ -70,10 +70,11 @@ pub record Hides : Type 0 where
   pub paddles : (a b : List ℕ) → apart a ≡ apart b
       → (mode : Mode) (paddle : ℕ) (g : Gesture) (p : Percent) → announced a mode paddle g p ≡ announced b mode paddle g p
 
+-- An entry of the command table.
 abbrev pub entry : ℕ → ℕ → ℕ → Entry
 entry command first second = record { command = command; first = first; second = second }
 
--- "(j) Command entry 22 FF FF sends two message bytes", whatever the gesture, paddle and mode that have it; and how others are trimmed.
+-- 01, Numbers to test by, 10 (j): the entry is cut to two bytes, whatever gesture, paddle and mode choose it; and how others are cut.
 pub record CaseJ : Type 0 where
   pub sends : (all : List ℕ) (mode : Mode) (paddle : ℕ) (g : Gesture) (p : Percent)
       → valid (transmitIn all paddle .link) ≡ true

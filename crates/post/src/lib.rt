@@ -91,7 +91,7 @@ pub fn announce(all: &[u8; 256], mode: Mode, paddle: u8, gesture: Gesture, perce
     Note::none()
 }
 
-// Each single, double, Hold and Release outside Setup, but no double in Factory Default.
+// The command number of a gesture in a mode: none in Setup, and none for a double in Factory Default.
 fn number(mode: Mode, transmit: Transmit, gesture: Gesture) -> u8
     ensures { λ r. ⌜ r ≡ commandNumber mode transmit gesture ⌝ }
 {
@@ -200,7 +200,7 @@ fn link(note: Note, message: &[u8], out: &mut [u8]) -> u8
     )
 }
 
-// Lays a reply to its sender likewise. `seen` holds the password only where the caller may show it.
+// Lays a reply to the one who asked likewise. `seen` holds the password only where the caller may show it.
 pub fn send(
     all: &[u8; 256],
     seen: Seen,
