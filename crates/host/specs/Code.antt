@@ -11,11 +11,12 @@ use Rattle.host.specs.declared.Figures.{Figures}
 use mathlib.Core.Path.{_≡_}
 use Rattle.switch.specs.declared.Handed.{Handed}
 
--- What a tick that does nothing else makes of the numbers: where nothing runs they stay, else the level and the kind of motion are kept.
+-- What a tick that completes no gesture and saves nothing makes of the numbers: where the kind of motion is 0 they stay, else the level and
+-- the kind are kept.
 unfoldable pub keptStep : Dimmer → List ℕ → List ℕ
 keptStep d l = if eqb (getD l kindIndex 0) 0 then l else keptKind (d .motion) (set l levelIndex (d .level .0))
 
--- An outcome of the switch, kept and told.
+-- What the switch hands back, kept and told.
 pub record Tells (o : Handed) (counters numbers : List ℕ) (answer : Figures) (counters′ numbers′ : List ℕ) : Type 0 where
   pub answered : answer ≡ inFigures (o .answer)
   pub counted : counters′ ≡ keptCounters (o .live) counters

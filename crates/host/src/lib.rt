@@ -2,10 +2,10 @@
 // in plain numbers, and is lent to each of them; a slice crosses as a pointer and a length. Most events change little, and go a
 // quick way that touches only that.
 //
-// counters   0 version, 1 phase, 2 blink, 3 flash: the lamp's. 4 save. 5 left: of a motion. 6 and 7 hold, 8 and 9 gap: of the
+// counters   0 version, 1 phase, 2 signal, 3 flash: the lamp's. 4 save. 5 left: of a motion. 6 and 7 hold, 8 and 9 gap: of the
 //            top paddle and the bottom. 10 period: of a motion.
 // numbers    0 and 1 local, 2 and 3 slave, 4 and 5 taps: of the top paddle and the bottom. 6 level, 7 kind of motion, 8 mode,
-//            9 hue of the lamp's blink, 10 last level, 11 target of a fade, 12 and 13 the password.
+//            9 hue of the lamp's signal, 10 last level, 11 target of a fade, 12 and 13 the password.
 //
 // A contact is 1 while it is down. Motion 0: idle, 1: fading, 2: blinking. Mode 0: Normal, 1: Setup, 2: Factory. Colour 0:
 // black, 1: red, 2: green, 3: orange.
@@ -39,7 +39,7 @@ mod keep;
 mod mirror;
 mod whole;
 
-// `count` packets were sent, of `first` and `second` bytes.
+// An answer in figures: `count` packets were sent, of `first` and `second` bytes.
 #[repr(C)]
 pub struct Figures {
     pub number: u8,

@@ -16,7 +16,7 @@ use units::Step;
 use vault::Mode;
 use vault::Password;
 
-// Where each counter stands. Of the paddles the top's comes first, and the bottom's after it.
+// Where each counter stands. Of the paddles the top's comes first, and the bottom's after it. BLINK is the lamp's signal.
 pub(crate) const VERSION: usize = 0;
 
 pub(crate) const PHASE: usize = 1;

@@ -54,7 +54,7 @@ saved-stands m began c all all′ packets w e s save apply =
       password = rw (saving-keeps (m .core), nothing-followed (m .change)) (s .password);
     }
 
--- The end of either: packets laid and counted, the blink, the answer.
+-- The end of either: packets laid and counted, the signal, the answer.
 pub finished-responds :
     (deed : Deed) (live : Live) (all out : List ℕ) (m : Moment) (ps ps′ : List Paddle) (c c′ : Core) (all′ out′ : List ℕ) (packets : List (List ℕ))
     (w : Password) (sent : Sent) (answer : Answer)

@@ -16,7 +16,7 @@ use Rattle.switch.specs.declared.Answer.{Answer}
 use Rattle.switch.specs.declared.Live.{Live}
 use Rattle.switch.specs.declared.Handed.{Handed}
 
--- "2: buffer shorter than 48", and what is asked where it is not.
+-- A buffer under 48 bytes is 2; where there is room, the deed asks.
 pub no-room : (p : Plain) (room : ℕ) (deed : Deed) → room < 48 → job p (event room deed) ≡ done (refused 2 p) nothing
 unfolding job
 no-room p room deed h = rw (lt-ltb room 48 h)
@@ -25,7 +25,7 @@ pub enough-room : (p : Plain) (room : ℕ) (deed : Deed) → 48 ≤ room → job
 unfolding job
 enough-room p room deed h = rw (le-ltb room 48 h)
 
--- "3: contact above 3"
+-- A contact above 3 is 3.
 pub unknown : (contact : ℕ) (asked : Plain → SwitchJob) (p : Plain) → 3 < contact → known contact asked p ≡ done (refused 3 p) nothing
 unfolding known
 unknown contact asked p h = rw (lt-ltb 3 contact h)

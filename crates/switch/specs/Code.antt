@@ -1,4 +1,4 @@
--- What the inner functions of the code promise, in the definitions' terms.
+-- What the inner functions of the code promise: no promise under the roof needs a definition of this file.
 use mathlib.Core.Path.{_≡_}
 use mathlib.Core.Bool.{Bool, true, _&&_}
 use mathlib.Core.List.{List, [], _∷_, _++_, map}
@@ -53,13 +53,15 @@ refusedWith number live all = record { answer = answerWith number (tally []) all
 abbrev pub lived : Password → Core → List Paddle → Live
 lived password core paddles = record { password = password; core = core; paddles = paddles }
 
+-- The answer to a packet in parts.
 abbrev pub handled : Answer → Password → Core → Handled
 handled answer password core = record { answer = answer; core = core; password = password }
 
--- A packet that is refused, and one that does not read.
+-- A packet that is refused.
 unfoldable pub unmoved : ℕ → Password → Core → List ℕ → Handled
 unmoved number w c all = handled (answerWith number (tally []) all c) w c
 
+-- A packet that does not read.
 unfoldable pub garbledBy : ℕ → Password → Core → List ℕ → Handled
 garbledBy number w c all = unmoved number w (signalled Black c) all
 
@@ -83,15 +85,16 @@ OneHandled =
 abbrev pub Orders : Order → ℕ → List ℕ → Password → Core → List ℕ → List ℕ → Handled → List ℕ → List ℕ → Type 0
 Orders o source values w c all out = Leads (λ ps. settled w (jobOfOrder o source values (plain all c ps))) out
 
--- An act, answered as `answering` has it.
+-- An act, answered as `outcomeOf` has it.
 abbrev pub Answers : Effect → List ℕ → ℕ → Reply → Seen → Password → List ℕ → List ℕ → Handled → List ℕ → List ℕ → Type 0
 Answers e values source r s w all out =
     Leads (λ ps. answered (outcomeOf e values source r (plain all (e .core) ps) s) (changed (changeOf (e .write) values) w)) out
 
--- Whether an order is refused: by its number, or by 14 where the guess is wrong.
+-- 01, Answer numbers, row 14: a wrong guess.
 unfoldable pub verdictOn : Password → Password → Verdict
 verdictOn w guess = if matches w guess then Go else Stop 14
 
+-- Whether an order is refused: by its own number, or by 14.
 unfoldable pub verdictOf : Order → Password → Verdict
 verdictOf (order.Refused n) w = Stop n
 verdictOf (order.Open guess) w = verdictOn w guess
@@ -148,7 +151,7 @@ pub record Sends (packets : List (List ℕ)) (before : List ℕ) (sent : Sent) (
   pub counted : sent ≡ tally packets
   pub bytes : after ≡ placed packets before
 
--- The blink of an edge or a tick, by how many packets it sent.
+-- The signal of an edge or a tick, by how many packets it sent.
 unfoldable pub signalledOn : ℕ → Core → Core
 signalledOn count c = if eqb count 0 then c else signalled Red c
 
@@ -161,13 +164,15 @@ unfoldable pub quiet : List Paddle → Bool
 quiet [] = true
 quiet (p ∷ ps) = completesNothing (gesture p) && quiet ps
 
+-- The paddles a tick later, and whether it completes no gesture.
 abbrev pub recognised : List Paddle → Bool → Recognised
 recognised paddles quiet = record { paddles = paddles; quiet = quiet }
 
--- A tick that completes no gesture and saves nothing: the core after it, and what is shown.
+-- The core after a tick that completes no gesture and saves nothing.
 unfoldable pub passedCore : Core → Core
 passedCore c = core (aged c .mode) (aged c .dimmer) (aged c .lamp) (less (c .save))
 
+-- The same, and what is shown.
 unfoldable pub passed : List ℕ → Core → Passed
 passed all c = record { answer = answerWith 0 (tally []) all (passedCore c); core = passedCore c }
 
@@ -178,11 +183,12 @@ added s size =
     else if eqb (s .count) 0 then record { count = 1; first = size; second = s .second }
     else record { count = 2; first = s .first; second = size }
 
--- "Outside Setup, Get Registers sends 0 for 0x02 and 0x03."
+-- 01, Commands, 9: the password is seen in Setup alone.
 unfoldable pub seenBy : Mode → Password → Seen
 seenBy Normal w = seen.Hidden
 seenBy Setup w = seen.Shown w
 seenBy Factory w = seen.Hidden
 
+-- 01, Answer numbers, 3: what a refused start hands back.
 abbrev pub noOutcome : ℕ → Handed
 noOutcome number = record { answer = noAnswer number; live = nobody }

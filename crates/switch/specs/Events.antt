@@ -1,4 +1,5 @@
--- What each event asks of the switch. Nothing here sees the password.
+-- What each event asks of the switch, as a job. jobOfX is the job that X makes of a state: a deed, its bytes, their frame, its order, its
+-- act. The password is no argument of any of them; a job can hold a guess to compare with it or a function to show it by (vault).
 use mathlib.Core.List.{List, [], _∷_, map}
 use Prim.Native.Nat.{ℕ, _%_}
 use lib.Dec.{ltb}
@@ -36,70 +37,79 @@ use Rattle.post.specs.declared.Reply.the-variants as reply
 use Rattle.switch.specs.Switch.{Plain, plain, freshPaddles, Deed, press, release, tick, receive, restart, Event, Shown, shown}
 use Rattle.switch.specs.Paddles.{Moment, moment, after, turned, turns}
 
+-- The job of an event of the wall switch.
 abbrev pub SwitchJob : Type 0
 SwitchJob = Job Plain Shown
 
--- "On a refusal count and lengths are 0 and the rest shows the switch as it stands."
+-- 01, Events and time, 8 and 01, Answer numbers, 2: a refusal sends nothing, shows the switch as it is and leaves it so.
 unfoldable pub refused : ℕ → Plain → Outcome Plain Shown
 refused number p = outcome (shown number [] p) p
 
--- "red on sending": edges and ticks blink in no other colour.
+-- 01, Lamp, start, factory values, 1 (diagnostic): edges and ticks that send begin the red signal, and no other.
 unfoldable pub signalledBy : List (List ℕ) → Core → Core
 signalledBy [] c = c
 signalledBy (p ∷ sent) c = signalled Red c
 
--- An event of the paddles is done: what was sent, the next state, what became of the password.
+-- An edge or a tick is done, number 0: what was sent, the next state, what became of the password.
 unfoldable pub finished : Moment → List Paddle → SwitchJob
 finished m paddles =
     let p = plain (m .registers) (signalledBy (m .sent) (m .core)) paddles in
     done (outcome (shown 0 (m .sent) p) p) (m .change)
 
+-- An event begins: nothing is sent, nothing changed.
 abbrev pub begun : Plain → Core → Moment
 begun p c = moment (p .registers) c [] nothing
 
--- "contact 0 local top, 1 local bottom, 2 slave top, 3 slave bottom"
+-- 01, Events and time, 2: the paddle of a contact.
 unfoldable pub paddleOf : ℕ → ℕ
 paddleOf contact = contact % 2
 
+-- 01, Events and time, 2: a contact is local or slave.
 unfoldable pub kindOf : ℕ → Contact
 kindOf contact = if ltb contact 2 then Local else Slave
 
+-- The paddle that a contact moves.
 abbrev pub paddleAt : ℕ → List Paddle → Paddle
 paddleAt contact paddles = getD paddles (paddleOf contact) freshPaddle
 
--- The paddles after an edge of a contact, and the gesture that a release completes.
+-- The paddles after a press edge of a contact.
 unfoldable pub pressedAt : ℕ → List Paddle → List Paddle
 pressedAt contact paddles = set paddles (paddleOf contact) (pressed (kindOf contact) (paddleAt contact paddles))
 
+-- The paddles after its release edge.
 unfoldable pub releasedAt : ℕ → List Paddle → List Paddle
 releasedAt contact paddles = set paddles (paddleOf contact) (released (kindOf contact) (paddleAt contact paddles))
 
+-- The gesture that a release edge completes.
 unfoldable pub gestureAt : ℕ → List Paddle → Gesture
 gestureAt contact paddles = gestureUp (kindOf contact) (paddleAt contact paddles)
 
+-- A press edge completes no gesture.
 unfoldable pub jobOfPress : ℕ → Plain → SwitchJob
 jobOfPress contact p = finished (begun p (p .core)) (pressedAt contact (p .paddles))
 
+-- A release edge, and what its gesture does and sends.
 unfoldable pub jobOfRelease : ℕ → Plain → SwitchJob
 jobOfRelease contact p =
     finished (turned (paddleOf contact) (gestureAt contact (p .paddles)) (begun p (p .core))) (releasedAt contact (p .paddles))
 
--- "Each tick, in order: lamp and output timers, fade or blink, top paddle, bottom paddle, and every 480th tick since start or restart the percent goes to 0xF9."
+-- 01, Paddles, 16: lamp with output, dimmer, the paddles from the top one on, and the save where it is due.
 unfoldable pub jobOfTick : Plain → SwitchJob
 jobOfTick p =
     let m = turns 0 (p .paddles) (begun p (aged (p .core))) in
     finished (after (saved (m .core)) m) (map nextPaddle (p .paddles))
 
--- "Start and restart: one more in 0xFC, Normal, contacts up, timers clear .."
+-- 01, Lamp, start, factory values, 5: 0xFC counts one more, and all but the registers begins anew.
 unfoldable pub woken : List ℕ → Plain
 woken all =
     let registers = applied (Count Restarts) [] all in
     plain registers (started registers) freshPaddles
 
+-- A restart is answered 0; the password is kept.
 unfoldable pub jobOfRestart : Plain → SwitchJob
 jobOfRestart p = done (outcome (shown 0 [] (woken (p .registers))) (woken (p .registers))) nothing
 
--- "0x10 Get Registers (.. reply 0x90, first, values)"; "0x30 Report Status (reply 0x86, percent)"
+-- 01, Commands, 3 (0x10, 0x30): Get and Report have a reply, the other orders none.
 unfoldable pub replyTo : Order → Reply
 replyTo (order.Refused n) = reply.Silence
 replyTo (order.Open guess) = reply.Silence
@@ -114,28 +124,28 @@ replyTo (order.Blink value) = reply.Silence
 replyTo order.Report = reply.Status
 replyTo (order.Store i) = reply.Silence
 
--- "red on sending, else green on 0 .. from a packet"
+-- 01, Lamp, start, factory values, 1 (diagnostic): after a packet that is answered 0 the signal is red if a reply is sent, else green.
 unfoldable pub hueOf : Reply → Colour
 hueOf reply.Silence = Green
 hueOf reply.Status = Red
 hueOf (reply.Registers first count) = Red
 
--- The state after an act that a packet asked for, with the values that it brings.
+-- The state after an act that a packet asked for: what it writes, with the values that it brings, and the signal.
 unfoldable pub plainAfter : Effect → List ℕ → Colour → Plain → Plain
 plainAfter e values hue p = plain (applied (e .write) values (p .registers)) (signalled hue (e .core)) (p .paddles)
 
--- A packet that is answered 0, and what it is answered with.
+-- A packet that is answered 0: the state after it, and the reply (01, Commands, 8) with registers and percent as they then are.
 unfoldable pub outcomeOf : Effect → List ℕ → ℕ → Reply → Plain → Seen → Outcome Plain Shown
 outcomeOf e values source r p s =
     let nextPaddle = plainAfter e values (hueOf r) p in
     outcome (shown 0 (replied (nextPaddle .registers) s source r (percentOf (nextPaddle .core .dimmer .level))) nextPaddle) nextPaddle
 
--- Start Setup: the right password opens it, a wrong one is refused by 14.
+-- 01, Commands, 3 (0x03) and 01, Answer numbers, row 14: the right guess opens Setup, a wrong one is refused.
 unfoldable pub jobOfGuess : Password → Plain → SwitchJob
 jobOfGuess guess p =
     compare guess (outcomeOf (opened (p .core)) [] 0 reply.Silence p seen.Hidden) (refused 14 p)
 
--- Get Registers: in Setup it shows the password, elsewhere 0 in its place.
+-- 01, Commands, 3 (0x10) and 9: in Setup the password is read with the rest, elsewhere as zeros.
 unfoldable pub jobOfGet : ℕ → ℕ → ℕ → Plain → SwitchJob
 jobOfGet first count source p =
     let o = performed (p .registers) (order.Get first count) (p .core) in
@@ -144,12 +154,13 @@ jobOfGet first count source p =
     then reveal (λ w. outcomeOf o [] source r p (seen.Shown w) .shown) (outcomeOf o [] source r p seen.Hidden .next)
     else done (outcomeOf o [] source r p seen.Hidden) nothing
 
--- Any other order: Set Registers brings the values behind its first argument.
+-- Any other order that is not refused. The values are those of Set Registers.
 unfoldable pub jobOfAct : Order → ℕ → List ℕ → Plain → SwitchJob
 jobOfAct o source values p =
     let e = performed (p .registers) o (p .core) in
     done (outcomeOf e values source (replyTo o) p seen.Hidden) (changeOf (e .write) values)
 
+-- What the judgement orders, 9 to 13 refused without a signal (01, Lamp, start, factory values, 3).
 unfoldable pub jobOfOrder : Order → ℕ → List ℕ → Plain → SwitchJob
 jobOfOrder (order.Refused n) source values p = done (refused n p) nothing
 jobOfOrder (order.Open guess) source values p = jobOfGuess guess p
@@ -164,7 +175,7 @@ jobOfOrder (order.Blink value) source values p = jobOfAct (order.Blink value) so
 jobOfOrder order.Report source values p = jobOfAct order.Report source values p
 jobOfOrder (order.Store i) source values p = jobOfAct (order.Store i) source values p
 
--- "A refusal changes .. nothing of the switch, except the lamp blink below for 4 to 8": black.
+-- 01, Answer numbers, 2 and 01, Lamp, start, factory values, 1 (diagnostic): 4 to 8 begin the black signal and change nothing else.
 unfoldable pub garbled : ℕ → Plain → Outcome Plain Shown
 garbled number p =
     let nextPaddle = plain (p .registers) (signalled Black (p .core)) (p .paddles) in
@@ -174,6 +185,7 @@ garbled number p =
 abbrev unread : Frame → Plain → SwitchJob
 unread f p = done (garbled (numberOfFrame f) p) nothing
 
+-- 01, Answer numbers, 1: what the reader refuses is not judged. The values of a Set stand behind the command and the first register.
 unfoldable pub jobOfFrame : Frame → List ℕ → Plain → SwitchJob
 jobOfFrame (frame.Read header) message p =
     jobOfOrder (judged (p .registers) (p .core .mode) header message) (header .source) (drop 2 message) p
@@ -183,13 +195,15 @@ jobOfFrame frame.Length message p = unread frame.Length p
 jobOfFrame frame.Sum message p = unread frame.Sum p
 jobOfFrame frame.Reserved message p = unread frame.Reserved p
 
+-- A received packet is read first.
 unfoldable pub jobOfBytes : List ℕ → Plain → SwitchJob
 jobOfBytes bytes p = jobOfFrame (readOf bytes) (messageOf bytes) p
 
--- "3: contact above 3"
+-- 01, Answer numbers, row 3: there are four contacts.
 unfoldable pub known : ℕ → (Plain → SwitchJob) → Plain → SwitchJob
 known contact asked p = if ltb 3 contact then done (refused 3 p) nothing else asked p
 
+-- 01, Events and time, 2: the job of each kind of event.
 unfoldable pub jobOfDeed : Deed → Plain → SwitchJob
 jobOfDeed (press contact) p = known contact (jobOfPress contact) p
 jobOfDeed (release contact) p = known contact (jobOfRelease contact) p
@@ -197,6 +211,6 @@ jobOfDeed tick p = jobOfTick p
 jobOfDeed (receive bytes) p = jobOfBytes bytes p
 jobOfDeed restart p = jobOfRestart p
 
--- "2: buffer shorter than 48", before anything else.
+-- 01, Answer numbers, row 2: a buffer under 48 bytes is refused, before all other checks of an event (01, Answer numbers, 1).
 unfoldable pub job : Plain → Event → SwitchJob
 job p e = if ltb (e .room) 48 then done (refused 2 p) nothing else jobOfDeed (e .deed) p

@@ -26,13 +26,13 @@ moment registers core sent change = record { registers = registers; core = core;
 unfoldable pub after : Effect → Moment → Moment
 after e m = moment (applied (e .write) [] (m .registers)) (e .core) (m .sent) (followed (m .change) (changeOf (e .write) []))
 
--- ".. then transmits a link packet": in the mode that the gesture finds, with the registers and the percent after the act.
+-- 01, Paddles, 12: a gesture acts, then sends: in the mode that it finds, with registers and percent as the act leaves them.
 unfoldable pub turned : ℕ → Gesture → Moment → Moment
 turned i g m =
     let now = after (acted (m .registers) i g (m .core)) m in
     moment (now .registers) (now .core) (m .sent ++ announced (now .registers) (m .core .mode) i g (percentOf (now .core .dimmer .level))) (now .change)
 
--- "top paddle, bottom paddle": each acts on what the one before it has left.
+-- 01, Paddles, 16: the paddles from number i on, each acting on what the one before it has left.
 unfoldable pub turns : ℕ → List Paddle → Moment → Moment
 turns i [] m = m
 turns i (p ∷ ps) m = turns (i + 1) ps (turned i (gesture p) m)

@@ -44,26 +44,31 @@ pub record Responds (deed : Deed) (live : Live) (all out : List ℕ) (answer : A
   pub next : held live′ all′ ≡ respond (held live all) (event (length out) deed) .next
   pub bytes : out′ ≡ placed (respond (held live all) (event (length out) deed) .shown .sent) out
 
--- "A switch starts from a copy of a lent image of 256 register bytes."
+-- 01, Events and time, 1: a switch from a copy of the image, the password held apart.
 unfoldable pub startedFrom : List ℕ → Switch Plain
 startedFrom image = switch (woken (apart image)) (passwordIn image)
 
--- "A refused start gives no switch": what stands in its place, and what its answer holds, is fixed all the same.
+-- 01, Answer numbers, 3: no switch comes of a refused start; this stands in its place.
 abbrev pub nobody : Live
 nobody = record { password = password 0 0; core = core Normal (freshDimmer off) freshLamp 0; paddles = freshPaddles }
 
+-- 01, Answer numbers, 3: what the answer to a refused start shows besides its number.
 abbrev pub noAnswer : ℕ → Answer
 noAnswer number = record { number = number; sent = tally []; level = off; output = off; colour = Black; mode = Normal }
 
+-- 01, Events and time, 1: an image has 256 bytes.
 abbrev pub whole : List ℕ → Bool
 whole image = eqb (length image) 256
 
+-- 01, Answer numbers, rows 0 and 1: 0 with the switch as it starts, or 1.
 unfoldable pub startAnswer : List ℕ → Answer
 startAnswer image = if whole image then answerOf 0 [] (startedFrom image .plain) else noAnswer (numberTaken Refused)
 
+-- The switch after a start; after a refused one the lent registers are as they were.
 unfoldable pub startNext : List ℕ → List ℕ → Switch Plain
 startNext image all = if whole image then startedFrom image else held nobody all
 
+-- What the start promises: the answer, the switch, every register.
 pub record Starts (image all : List ℕ) (answer : Answer) (live′ : Live) (all′ : List ℕ) : Type 0 where
   pub answered : answer ≡ startAnswer image
   pub next : held live′ all′ ≡ startNext image all

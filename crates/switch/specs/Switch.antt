@@ -1,4 +1,4 @@
--- What a switch holds, what happens to it, and what it answers, as document 01 has it under "Events and time".
+-- What a switch holds, what happens to it, and what it answers (01, Events and time).
 use mathlib.Core.List.{List, [], _∷_}
 use Prim.Native.Nat.{ℕ}
 use lib.ListN.{length, getD}
@@ -22,7 +22,7 @@ pub record Plain : Type 0 where
 abbrev pub plain : List ℕ → Core → List Paddle → Plain
 plain registers core paddles = record { registers = registers; core = core; paddles = paddles }
 
--- How many paddles there are, all up.
+-- 01, Lamp, start, factory values, 5: the paddles after a start, both up. Their number is said here.
 abbrev pub freshPaddles : List Paddle
 freshPaddles = freshPaddle ∷ freshPaddle ∷ []
 
@@ -30,11 +30,11 @@ freshPaddles = freshPaddle ∷ freshPaddle ∷ []
 abbrev pub held : Live → List ℕ → Switch Plain
 held live all = switch (plain all (live .core) (live .paddles)) (live .password)
 
--- All that it holds besides its registers.
+-- All that a switch holds besides its registers.
 abbrev pub liveIn : Switch Plain → Live
 liveIn s = record { password = s .password; core = s .plain .core; paddles = s .plain .paddles }
 
--- "Events: a press or release edge of contact 0 local top, 1 local bottom, 2 slave top, 3 slave bottom; one tick; a received packet; a restart."
+-- 01, Events and time, 2: the five kinds of event. A press or release names its contact, a receive has the packet's bytes.
 pub data Deed : Type 0 where
   press : ℕ → Deed
   release : ℕ → Deed
@@ -42,7 +42,7 @@ pub data Deed : Type 0 where
   receive : List ℕ → Deed
   restart : Deed
 
--- "Each event is given a lent buffer": room is its length.
+-- 01, Events and time, 5: an event and its buffer, of which the length alone counts.
 pub record Event : Type 0 where
   pub room : ℕ
   pub deed : Deed
@@ -50,10 +50,11 @@ pub record Event : Type 0 where
 abbrev pub event : ℕ → Deed → Event
 event room deed = record { room = room; deed = deed }
 
--- "The answer holds a number, the count of packets sent (0 to 2) with each length, level and output in steps, lamp colour and mode."
+-- 01, Events and time, 7: how many packets were sent, and the lengths of two; 0 where there is none.
 unfoldable pub tally : List (List ℕ) → Sent
 tally sent = record { count = length sent; first = length (getD sent 0 []); second = length (getD sent 1 []) }
 
+-- 01, Events and time, 7: what an answer is made of. Level, output, lamp and mode are those of the core.
 unfoldable pub answerWith : ℕ → Sent → List ℕ → Core → Answer
 answerWith number sent all c =
     let level = c .dimmer .level in
@@ -66,6 +67,7 @@ answerWith number sent all c =
       mode = c .mode;
     }
 
+-- The answer of a state, for the packets sent.
 unfoldable pub answerOf : ℕ → List (List ℕ) → Plain → Answer
 answerOf number sent p = answerWith number (tally sent) (p .registers) (p .core)
 
@@ -74,5 +76,6 @@ pub record Shown : Type 0 where
   pub answer : Answer
   pub sent : List (List ℕ)
 
+-- What is seen where these packets are sent and this is the next state.
 abbrev pub shown : ℕ → List (List ℕ) → Plain → Shown
 shown number sent p = record { answer = answerOf number sent p; sent = sent }

@@ -34,6 +34,7 @@ pub struct Sent {
     pub second: u8,
 }
 
+// The answer: number, packets sent, and what is shown of the switch.
 pub struct Answer {
     pub number: u8,
     pub sent: Sent,
@@ -102,7 +103,7 @@ pub fn show(core: Core, all: &[u8; 256], number: u8, sent: Sent) -> Answer
     }
 }
 
-// Red on sending: edges and ticks blink in no other colour.
+// Edges and ticks that send begin the red signal, and no other.
 fn signalled_on(core: Core, sent: Sent) -> Core
     ensures { λ r. ⌜ r ≡ signalledOn (sent .count) core ⌝ }
 {

@@ -97,7 +97,7 @@ fn unmoved(core: Core, password: Password, all: &[u8; 256], number: u8) -> Handl
     }
 }
 
-// A packet that does not read: the lamp blinks black, nothing else changes.
+// A packet that does not read: the black signal begins, nothing else changes.
 fn garbled(core: Core, password: Password, all: &[u8; 256], number: u8) -> Handled
     ensures { λ r. ⌜ r ≡ garbledBy number password core (now (all .entry)) ⌝ }
 {

@@ -23,8 +23,8 @@ struct Passed {
     pub core: Core,
 }
 
-// In order: lamp and output timers, fade or blink, top paddle, bottom paddle, and the saved level. Most ticks complete no
-// gesture, and go the quick way.
+// The stages of a tick: lamp with output, dimmer, the paddles from the top one on, the save. Most ticks complete no gesture,
+// and go the quick way.
 pub fn tick(live: Live, all: &mut [u8; 256], out: &mut [u8]) -> Handed
     ensures { λ r. ⌜ Responds tick live (now (all .entry)) (now (out .entry)) (r .answer) (r .live) (now (all .exit)) (now (out .exit)) ⌝ }
 {
@@ -64,7 +64,7 @@ fn pass(core: Core, all: &[u8; 256]) -> Passed
     }
 }
 
-// A tick of paddles that may act and send.
+// A tick with all its stages: paddles may act and send, the level may be saved.
 fn turn(live: Live, all: &mut [u8; 256], out: &mut [u8]) -> Handed
     requires { ⌜ 48 ≤ length (now out) ⌝ }
     ensures { λ r. ⌜ Responds tick live (now (all .entry)) (now (out .entry)) (r .answer) (r .live) (now (all .exit)) (now (out .exit)) ⌝ }
