@@ -201,7 +201,7 @@ up-writes mode contact p =
 abbrev Says : Switch Plain → List Writing → Answered Plain Shown → Type 0
 Says s ws a = (a .next .plain .registers ≡ written ws (s .plain .registers)) × (a .next .password ≡ rewritten ws (s .password))
 
--- The lamp's blink leaves the dimmer alone.
+-- The lamp's signal leaves the dimmer alone.
 signalled-dimmer : (sent : List (List ℕ)) (c : Core) → signalledBy sent c .dimmer ≡ c .dimmer
 unfolding signalledBy signalled
 signalled-dimmer [] c = refl
@@ -467,7 +467,7 @@ pub record Apart (place : ℕ) : Type 0 where
   pub factory : (n old : ℕ) → byteAfter write.Factory [] place n ≡ factoryAt place old
 
 module _ (s : Switch Plain) (place : ℕ) (P : ℕ → Type 0) (apart : Apart place) where
-  -- The three ways to another byte.
+  -- The three ways to another byte at such a place.
   by-cause : (d : Deed) → ((n : ℕ) → StoredAt s d place n → P n) → ((n : ℕ) → SetAt s d place n → P n) → ((n : ℕ) → FactorySet s d place n → P n)
       → (w : Writing) → Cause s d w → (n : ℕ) → P n → P (byteAfter (w .write) (w .values) place n)
   unfolding byteAfter byteSet sets

@@ -118,7 +118,7 @@ turns-midway n i (p ∷ ps) m k =
     subst (λ (j : ℕ). Midway j (turns (i + 1) ps (turned i (gesture p) m))) e
     (turns-midway (n + 1) (i + 1) ps (turned i (gesture p) m) (turned-midway n i (gesture p) m k))
 
--- The blink of the lamp leaves the dimmer alone.
+-- The lamp's signal leaves the dimmer alone.
 signalled-within : (sent : List (List ℕ)) (c : Core) → Within (c .dimmer) → Within (signalledBy sent c .dimmer)
 unfolding signalledBy signalled
 signalled-within [] c w = w

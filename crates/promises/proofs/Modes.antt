@@ -30,7 +30,7 @@ use Rattle.promises.proofs.Jobs.{tick-job}
 
 -- ---- the mode of a tick
 
--- The lamp's blink leaves the mode alone.
+-- The lamp's signal leaves the mode alone.
 pub signalled-mode : (sent : List (List ℕ)) (c : Core) → signalledBy sent c .mode ≡ c .mode
 unfolding signalledBy signalled
 signalled-mode [] c = refl

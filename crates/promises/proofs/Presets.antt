@@ -26,7 +26,7 @@ use Rattle.promises.proofs.Bounds.{within-bounds}
 use Rattle.promises.proofs.Modes.{not-outside, opened}
 use Rattle.promises.proofs.Opening.{opening}
 
--- "the rest of 0x40-0xBF to 255"
+-- The factory value of every preset is 255.
 pub factory-preset : FactoryPreset
 unfolding factoryAt
 factory-preset place old h =

@@ -44,20 +44,22 @@ pub record Writing : Type 0 where
 abbrev pub writing : Write → List ℕ → Writing
 writing write values = record { write = write; values = values }
 
+-- A write that brings no values.
 abbrev pub bare : Write → Writing
 bare write = writing write []
 
--- "top paddle, bottom paddle": what each gesture of a tick writes in the mode that it finds; the next one finds the mode that it leaves.
--- `writes` has the modes: five taps in Normal count in 0xFA, ten taps in Setup set the factory values, and nothing else writes.
+-- 01, Paddles, 16: what each paddle's gesture writes at a tick, from the top one on, in the mode that it finds; the next finds the mode that it
+-- leaves. `writes` has the modes: five taps in Normal count in 0xFA, ten taps in Setup set the factory values, and no other gesture writes.
 unfoldable pub byPaddles : Mode → List Paddle → List Writing
 byPaddles mode [] = []
 byPaddles mode (p ∷ ps) = bare (writes mode (gesture p)) ∷ byPaddles (leads mode (gesture p)) ps
 
--- "every 480th tick since start or restart the percent goes to 0xF9": of the level that the tick leaves.
+-- 01, Paddles, 16: each 480th tick saves the percent of the level that it leaves.
 unfoldable pub bySaving : ℕ → Step → Write
 bySaving save level = if eqb save 0 then Save (percentOf level) else Nothing
 
--- A packet that is accepted: Start Setup counts in 0xFA where its guess is right, Set Registers writes its values, Store Preset the percent.
+-- A packet that is read: Start Setup counts in 0xFA where its guess is right, Set Registers writes its values, Store Preset the percent; no
+-- other order writes.
 unfoldable pub byOrder : Switch Plain → Order → List ℕ → List Writing
 byOrder s (order.Refused n) values = []
 byOrder s (order.Open guess) values = if matches (s .password) guess then bare (Count Setups) ∷ [] else []
@@ -72,6 +74,7 @@ byOrder s (order.Blink value) values = []
 byOrder s order.Report values = []
 byOrder s (order.Store i) values = bare (Preset i (percentOf (s .plain .core .dimmer .level))) ∷ []
 
+-- A packet that is not read writes nothing.
 unfoldable pub byFrame : Switch Plain → Frame → List ℕ → List Writing
 byFrame s (frame.Read h) message = byOrder s (judged (s .plain .registers) (s .plain .core .mode) h message) (drop 2 message)
 byFrame s frame.Short message = []
@@ -88,7 +91,7 @@ byDeed s level tick = byPaddles (s .plain .core .mode) (s .plain .paddles) ++ (b
 byDeed s level (receive bytes) = byFrame s (readOf bytes) (messageOf bytes)
 byDeed s level restart = bare (Count Restarts) ∷ []
 
--- All that an event writes, in order.
+-- All that an event writes, in order; without room for an answer it writes nothing.
 unfoldable pub writesOf : Switch Plain → Event → List Writing
 writesOf s e = if ltb (e .room) 48 then [] else byDeed s (respond s e .next .plain .core .dimmer .level) (e .deed)
 
@@ -105,18 +108,20 @@ byteAt s place = getD (imageIn s) place 0
 abbrev pub OneEquation : Type 0
 OneEquation = (s : Switch Plain) (e : Event) (place : ℕ) → Sane (s .plain) → place < size → byteAt (respond s e .next) place ≡ bytesAfter (writesOf s e) place (byteAt s place)
 
+-- Something holds of every write of a list.
 abbrev pub EachWrite : (Writing → Type 0) → List Writing → Type 0
 EachWrite P [] = Unit {0}
 EachWrite P (w ∷ ws) = P w × EachWrite P ws
 
--- A place that no write of the event sets keeps its byte.
+-- A write does not set a place.
 abbrev pub Misses : ℕ → Writing → Type 0
 Misses place w = sets (w .write) (length (w .values)) place ≡ false
 
+-- A place that no write of the event sets keeps its byte.
 abbrev pub OthersStay : Type 0
 OthersStay = (s : Switch Plain) (e : Event) (place : ℕ) → Sane (s .plain) → place < size → EachWrite (Misses place) (writesOf s e) → byteAt (respond s e .next) place ≡ byteAt s place
 
--- The table: each write, and the one thing that can cause it.
+-- The table: each write, and what can cause it.
 pub data Cause (s : Switch Plain) : Deed → Writing → Type 0 where
   no-write : Cause s tick (bare Nothing)
   restarted : Cause s restart (bare (Count Restarts))
@@ -127,11 +132,12 @@ pub data Cause (s : Switch Plain) : Deed → Writing → Type 0 where
   stored : (bytes : List ℕ) (i : ℕ) → Asks s bytes (order.Store i) → Cause s (receive bytes) (bare (Preset i (percentOf (s .plain .core .dimmer .level))))
   set : (bytes : List ℕ) (first : ℕ) → Asks s bytes (order.Set first) → Cause s (receive bytes) (writing (Values first) (drop 2 (messageOf bytes)))
 
+-- Every write of every event is in the table.
 abbrev pub OnlyCauses : Type 0
 OnlyCauses = (s : Switch Plain) (e : Event) → Sane (s .plain) → EachWrite (Cause s (e .deed)) (writesOf s e)
 
--- The three ways to another byte. A link Store Preset: the percent, into the level byte of its own matching component (`accepted` says by link,
--- and which component).
+-- Of the causes three can reach a preset, and two of the three the password. The first is a link Store Preset: the percent, into the
+-- level byte of its own matching component (`accepted` says by link, and which component).
 pub record StoredAt (s : Switch Plain) (d : Deed) (place now : ℕ) : Type 0 where
   pub bytes : List ℕ
   pub component : ℕ
@@ -140,7 +146,7 @@ pub record StoredAt (s : Switch Plain) (d : Deed) (place now : ℕ) : Type 0 whe
   pub at : place ≡ levelPlace component
   pub byte : now ≡ percentOf (s .plain .core .dimmer .level) .0
 
--- Set Registers over a place. It is accepted in Setup alone.
+-- The second: Set Registers over a place. It is accepted in Setup alone.
 pub record SetAt (s : Switch Plain) (d : Deed) (place now : ℕ) : Type 0 where
   pub bytes : List ℕ
   pub first : ℕ
@@ -151,14 +157,14 @@ pub record SetAt (s : Switch Plain) (d : Deed) (place now : ℕ) : Type 0 where
   pub most : place < first + length (drop 2 (messageOf bytes))
   pub byte : now ≡ getD (drop 2 (messageOf bytes)) (place - first) 0
 
--- A tick that enters Factory Default: the factory value, whatever was there.
+-- The third: a tick in which ten taps find Setup. The place then has its factory value, whatever was there.
 pub record FactorySet (s : Switch Plain) (d : Deed) (place now : ℕ) : Type 0 where
   pub paddle : ℕ
   pub event : d ≡ tick
   pub closes : Closes s paddle Setup 10
   pub byte : (old : ℕ) → now ≡ factoryAt place old
 
--- The two bytes of the password change by the last two alone.
+-- The two bytes of the password change by Set Registers and by the factory values alone.
 abbrev pub PasswordSafe : Type 0
 PasswordSafe =
     (s : Switch Plain) (e : Event) (place : ℕ) → Sane (s .plain) → secret place ≡ true

@@ -26,7 +26,7 @@ pub record Sane (p : Plain) : Type 0 where
 abbrev pub OfSize : List ℕ → Type 0
 OfSize packet = (7 ≤ length packet) × (length packet ≤ 24)
 
--- "steps 0 to 200 and percents 0 to 100"; "the count of packets sent (0 to 2) with each length": what an event shows, and the switch after it.
+-- 01, Levels and fades, 1 and 01, Events and time, 7: what an event shows, and the switch after it.
 pub record Bounds (x : Shown) (s : Switch Plain) : Type 0 where
   pub level : x .answer .level .0 ≤ 200
   pub output : x .answer .output .0 ≤ 200
@@ -36,6 +36,7 @@ pub record Bounds (x : Shown) (s : Switch Plain) : Type 0 where
   pub sizes : Each OfSize (x .sent)
   pub tallied : x .answer .sent ≡ tally (x .sent)
 
+-- These bounds at one event.
 abbrev pub Bounded : Switch Plain → Event → Type 0
 Bounded s e = Bounds (respond s e .shown) (respond s e .next)
 

@@ -1,4 +1,4 @@
--- Document 01, "Numbers to test by": the cases (a) to (j) as one table, of every switch that the text describes.
+-- 01, Numbers to test by: the cases (a) to (j) as one table, of every switch that a case describes.
 use mathlib.Core.Bool.{true}
 use mathlib.Core.List.{List, [], _∷_, _++_}
 use mathlib.Core.Path.{_≡_}
@@ -22,7 +22,7 @@ use Rattle.switch.specs.Respond.{respond, startAnswer, startedFrom}
 use Rattle.promises.specs.Numbers.{Asks, numberAt}
 use Rattle.promises.specs.Ticking.{AtRest, Fades, IsHold, IsNothing, IsTaps, blinks, coloursOf, dimmerBy, dimmerIn, levelIn, modeIn, pressOf, ticksOf}
 
--- The switch of its first sentence.
+-- 01, Numbers to test by, 1: the switch of the cases.
 pub record Bench (s : Switch Plain) : Type 0 where
   pub network : networkIn (s .plain .registers) ≡ 1
   pub unit : unitIn (s .plain .registers) ≡ 5
@@ -30,45 +30,55 @@ pub record Bench (s : Switch Plain) : Type 0 where
   pub mode : s .plain .core .mode ≡ Normal
   pub capable : optionsOf (dimmingIn (s .plain .registers)) .capable ≡ true
 
--- One such switch: started from an image with these registers, link 3 in the first component and the rest 0.
+-- So many zeros.
 unfoldable pub zeros : ℕ → List ℕ
 zeros zero = []
 zeros (suc n) = 0 ∷ zeros n
 
+-- An image of such a switch: network 1, unit 5, password 0x12 0x34, link 3 in the first component, a load that can dim, 40 percent saved; all
+-- other bytes are 0.
 unfoldable pub benchImage : List ℕ
 benchImage = set (set (set (set (set (set (set (zeros 256) 0x00 1) 0x01 5) 0x02 0x12) 0x03 0x34) 0x40 3) 0x8D 0x13) 0xF9 40
 
--- The packets of (a), (b), (c) and (e).
+-- 01, Numbers to test by, 2 (a): Report Status.
 abbrev pub packetA : List ℕ
 packetA = 0x07 ∷ 0x00 ∷ 0x01 ∷ 0x05 ∷ 0x09 ∷ 0x30 ∷ 0xBA ∷ []
 
+-- 01, Numbers to test by, 2 (a): its reply.
 abbrev pub replyA : List ℕ
 replyA = 0x08 ∷ 0x00 ∷ 0x01 ∷ 0x09 ∷ 0x05 ∷ 0x86 ∷ 0x28 ∷ 0x3B ∷ []
 
+-- 01, Numbers to test by, 3 (b): Goto 50 percent at rate 0, on link 3.
 abbrev pub packetB : List ℕ
 packetB = 0x89 ∷ 0x00 ∷ 0x01 ∷ 0x03 ∷ 0x09 ∷ 0x22 ∷ 0x32 ∷ 0x00 ∷ 0x16 ∷ []
 
+-- 01, Numbers to test by, 4 (c, d): Start Setup with 0x12 0x34.
 abbrev pub packetC : List ℕ
 packetC = 0x09 ∷ 0x00 ∷ 0x01 ∷ 0x05 ∷ 0x09 ∷ 0x03 ∷ 0x12 ∷ 0x34 ∷ 0x9F ∷ []
 
+-- 01, Numbers to test by, 5 (e): (a) with another last byte.
 abbrev pub packetE : List ℕ
 packetE = 0x07 ∷ 0x00 ∷ 0x01 ∷ 0x05 ∷ 0x09 ∷ 0x30 ∷ 0xBB ∷ []
 
--- (h) is of a capable switch at rest, at level 0; one such starts from the same image with 0 saved. Two packets for it, on link 3.
+-- 01, Numbers to test by, 8 (h): a capable switch at rest, at level 0.
 pub record Dark (s : Switch Plain) : Type 0 where
   pub rests : AtRest s
   pub capable : optionsOf (dimmingIn (s .plain .registers)) .capable ≡ true
   pub level : levelIn s ≡ off
 
+-- An image of such a switch.
 unfoldable pub darkImage : List ℕ
 darkImage = set benchImage 0xF9 0
 
+-- Goto 50 percent at rate 4, on link 3.
 abbrev pub packetHalf : List ℕ
 packetHalf = 0x89 ∷ 0x00 ∷ 0x01 ∷ 0x03 ∷ 0x09 ∷ 0x22 ∷ 0x32 ∷ 0x04 ∷ 0x12 ∷ []
 
+-- Goto 100 percent at rate 15, on link 3.
 abbrev pub packetFull : List ℕ
 packetFull = 0x89 ∷ 0x00 ∷ 0x01 ∷ 0x03 ∷ 0x09 ∷ 0x22 ∷ 0x64 ∷ 0x0F ∷ 0xD5 ∷ []
 
+-- 01, How much each contract says, 6: the ten cases, as one statement.
 pub record Cases : Type 0 where
   -- There is such a switch.
   pub bench : Bench (startedFrom benchImage)
@@ -83,22 +93,23 @@ pub record Cases : Type 0 where
       → (numberAt s (event room (receive packetB)) ≡ 0)
       × ((respond s (event room (receive packetB)) .shown .answer .level ≡ step 100)
       × (respond s (event room (receive packetB)) .next .plain .core .dimmer .motion ≡ Idle))
-  -- (c): Start Setup with the right password leads into Setup. (d): where the password is another, it is 14.
+  -- (c): Start Setup with the right password leads into Setup.
   pub c : (s : Switch Plain) (room : ℕ) → 48 ≤ room → Bench s → s .password ≡ password 0x12 0x34
       → (numberAt s (event room (receive packetC)) ≡ 0) × (respond s (event room (receive packetC)) .shown .answer .mode ≡ Setup)
+  -- (d): where the switch has another password, it is 14.
   pub d : (s : Switch Plain) (room : ℕ) → 48 ≤ room → Bench s → (s .password ≡ password 0x12 0x34 → ⊥)
       → numberAt s (event room (receive packetC)) ≡ 14
   -- (e): packet (a) with another last byte is 7, in every switch.
   pub e : (s : Switch Plain) (room : ℕ) → 48 ≤ room → numberAt s (event room (receive packetE)) ≡ 7
-  -- (f): a press of 59 ticks is nothing, one of 60 or of 179 is a tap, one of 180 is Hold; by any of the four contacts of a switch at rest, in
-  -- every mode.
+  -- (f): a press of 59 ticks is nothing, one of 60 or of 179 is a tap, one of 180 is Hold; by any of the four contacts of a switch at rest with
+  -- no fade or blink running, in every mode.
   pub f-nothing : (s : Switch Plain) (contact : ℕ) → contact ≤ 3 → AtRest s → dimmerIn s .motion ≡ Idle → IsNothing 59 contact s
   pub f-shortest : (s : Switch Plain) (contact : ℕ) → contact ≤ 3 → AtRest s → dimmerIn s .motion ≡ Idle → IsTaps 1 contact s (pressOf 60 contact)
   pub f-longest : (s : Switch Plain) (contact : ℕ) → contact ≤ 3 → AtRest s → dimmerIn s .motion ≡ Idle → IsTaps 1 contact s (pressOf 179 contact)
   pub f-hold : (s : Switch Plain) (contact : ℕ) → contact ≤ 3 → AtRest s → dimmerIn s .motion ≡ Idle → IsHold contact s
   -- Nothing and a tap can be told apart: one tap of the top paddle puts the bench's switch from step 80 to 0.
   pub f-there : dimmerBy (Taps 1) 0 (startedFrom benchImage) .level ≡ off
-  -- (g): a press 179 ticks after a tap was counted still counts with it. In Normal.
+  -- (g): a press 179 ticks after a tap was counted still counts with it. Of the same switch, in Normal.
   pub g : (s : Switch Plain) (contact : ℕ) → contact ≤ 3 → AtRest s → dimmerIn s .motion ≡ Idle → modeIn s ≡ Normal
       → IsTaps 2 contact s (pressOf 60 contact ++ (ticksOf 179 ++ pressOf 60 contact))
   -- (h): from 0 to 50 percent at rate 4 a fade takes 600 ticks, 6 for each step; from 0 to 100 at rate 15 it takes 864,000, 4,320 for each step;

@@ -12,7 +12,7 @@ use Rattle.promises.specs.Bounds.{Sane}
 use Rattle.promises.specs.Ticking.{paddleAfter, runOf, ticksOf}
 use Rattle.promises.specs.Demand3.{imageIn}
 
--- "Start and restart": a restarted switch is the one that starts from its own image, the one more in 0xFC counted in both.
+-- 01, Lamp, start, factory values, 5: a restarted switch is the one that starts from its own image, the one more in 0xFC counted in both.
 abbrev pub RestartIsStart : Type 0
 RestartIsStart = (s : Switch Plain) (room : ℕ) → 48 ≤ room → Sane (s .plain) → respond s (event room restart) .next ≡ startedFrom (imageIn s)
 
@@ -22,7 +22,7 @@ RestartForgets =
     (s t : Switch Plain) (room other : ℕ) → 48 ≤ room → 48 ≤ other → Sane (s .plain) → Sane (t .plain) → imageIn s ≡ imageIn t
     → respond s (event room restart) .next ≡ respond t (event other restart) .next
 
--- And so is every event after it.
+-- And so is all that they answer and hold at every event after it.
 abbrev pub RestartForgetsForGood : Type 0
 RestartForgetsForGood =
     (s t : Switch Plain) (room other : ℕ) → 48 ≤ room → 48 ≤ other → Sane (s .plain) → Sane (t .plain) → imageIn s ≡ imageIn t
@@ -35,6 +35,7 @@ TicksBeforeAPress =
     (s : Switch Plain) (contact n hold gap : ℕ) → Sane (s .plain) → paddleAt contact (s .plain .paddles) ≡ raised hold gap 0
     → Same (paddleAfter s contact (ticksOf n)) freshPaddle
 
+-- All that is promised of the clock.
 pub record Clock : Type 0 where
   pub restart : RestartIsStart
   pub forgets : RestartForgets

@@ -23,7 +23,7 @@ imageIn s = imageOf (s .plain .registers) (s .password)
 abbrev pub SameOutside : List ℕ → List ℕ → Type 0
 SameOutside a b = (length a ≡ length b) × ((place : ℕ) → secret place ≡ false → getD a place 0 ≡ getD b place 0)
 
--- "two switches alike in all but the password": mode, level, lamp, timers and paddles, and every register outside the two password bytes.
+-- The letter, demand 3, 1: alike but for the password, in mode, level, lamp, timers and paddles, and in every register outside its two bytes.
 pub record Alike (s t : Switch Plain) : Type 0 where
   pub core : s .plain .core ≡ t .plain .core
   pub paddles : s .plain .paddles ≡ t .plain .paddles
@@ -33,7 +33,7 @@ pub record Alike (s t : Switch Plain) : Type 0 where
 abbrev pub HeldApart : Switch Plain → Type 0
 HeldApart s = Dead (s .plain .registers)
 
--- "neither in Setup Mode"
+-- The letter, demand 3, 1: not in Setup.
 abbrev pub Outside : Switch Plain → Type 0
 Outside s = inSetup (s .plain .core .mode) ≡ false
 
@@ -42,9 +42,11 @@ pub record Lent : Type 0 where
   pub buffer : List ℕ
   pub deed : Deed
 
+-- The event of the switch: of the buffer it has the length.
 abbrev pub eventOf : Lent → Event
 eventOf l = event (length (l .buffer)) (l .deed)
 
+-- The events of a list.
 abbrev pub events : List Lent → List Event
 events ls = map eventOf ls
 
@@ -54,10 +56,11 @@ filled [] ls = []
 filled (x ∷ xs) [] = []
 filled (x ∷ xs) (l ∷ ls) = placed (x .sent) (l .buffer) ∷ filled xs ls
 
--- What is seen of a switch over the events, and the switch after them.
+-- What is seen of a switch over the events.
 abbrev pub seenOf : Switch Plain → List Lent → List Shown
 seenOf s ls = transcript (machine wallSwitch) s (events ls)
 
+-- The switch after the events.
 abbrev pub afterAll : Switch Plain → List Lent → Switch Plain
 afterAll s ls = run (machine wallSwitch) s (events ls)
 
@@ -66,14 +69,14 @@ afterAll s ls = run (machine wallSwitch) s (events ls)
 abbrev pub NeverOpens : Switch Plain → List Lent → Type 0
 NeverOpens s ls = StaysOut (alone wallSwitch) s (events ls)
 
--- "their answers, packets, output and lamp are equal, and so is all they hold outside the two password bytes"; every lent byte is equal too.
+-- The letter, demand 3, 2: over the events both answer, send and show the same, fill the lent buffers the same, and are alike after them.
 pub record SameToTheEye (s t : Switch Plain) (ls : List Lent) : Type 0 where
   pub shown : seenOf s ls ≡ seenOf t ls
   pub bytes : filled (seenOf s ls) ls ≡ filled (seenOf t ls) ls
   pub holds : Alike (afterAll s ls) (afterAll t ls)
 
--- "Take two switches alike in all but the password, neither in Setup Mode, and give both the same events, wrong guesses included. At each event
--- before the first that puts either into Setup Mode .." The list is any stretch of events before that first one.
+-- The letter, demand 3, 1 and 2: two switches that are alike, outside Setup, and given the same events. The list is any stretch of events of
+-- which none leaves either in Setup; a wrong guess may be among them.
 abbrev pub OfTwoSwitches : Type 0
 OfTwoSwitches =
     (s t : Switch Plain) (ls : List Lent) → HeldApart s → HeldApart t → Alike s t → Outside s → NeverOpens s ls → NeverOpens t ls
@@ -89,7 +92,8 @@ OfTwoImages =
 abbrev pub EverApart : Type 0
 EverApart = (image : List ℕ) (ls : List Lent) → length image ≡ size → HeldApart (afterAll (startedFrom image) ls)
 
--- Demand 3 of the full switch, with what follows from it: the guest who talks to one switch, or to many on one main, rules out at most the passwords he tried.
+-- Demand 3, of the full switch. `guest` is what follows from it (the letter, demand 3, 3): of one switch, or of many on one main, he can rule
+-- out no password but those that he guessed.
 pub record Demand3 : Type 0 where
   pub switches : OfTwoSwitches
   pub images : OfTwoImages

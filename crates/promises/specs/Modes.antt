@@ -21,10 +21,11 @@ modeFor mode [] i = mode
 modeFor mode (p ∷ ps) zero = mode
 modeFor mode (p ∷ ps) (suc i) = modeFor (leads mode (gesture p)) ps i
 
+-- The same of a switch at its next tick.
 abbrev pub modeAt : Switch Plain → ℕ → Mode
 modeAt s i = modeFor (s .plain .core .mode) (s .plain .paddles) i
 
--- It is the mode in which the tick stands when the first i paddles have had their turn, and the mode after the tick when all have.
+-- `modeAt` is the mode in which the tick stands when the first i paddles have had their turn, and the mode after the tick when all have.
 pub record FindsModes : Type 0 where
   pub found : (s : Switch Plain) (i : ℕ) → turns 0 (take i (s .plain .paddles)) (begun (s .plain) (aged (s .plain .core))) .core .mode ≡ modeAt s i
   pub left : (s : Switch Plain) (room : ℕ) → 48 ≤ room → respond s (event room tick) .next .plain .core .mode ≡ modeAt s (length (s .plain .paddles))

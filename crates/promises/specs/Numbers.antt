@@ -1,4 +1,4 @@
--- "Given exactly when": the answer numbers 0 to 14, event by event, and what a refusal leaves.
+-- 01, Answer numbers: when each of the numbers 0 to 14 is given, event by event, and what a refusal leaves.
 use mathlib.Core.Bool.{Bool, true, false, _&&_}
 use mathlib.Core.List.{List, []}
 use mathlib.Core.Logic.{_↔_, _⊎_}
@@ -24,10 +24,11 @@ use Rattle.switch.specs.Events.{kindOf, paddleAt}
 use Rattle.switch.specs.Respond.{respond, startAnswer}
 use Rattle.acts.specs.Core.{signalled}
 
--- The number that a switch answers to an event, and that a start answers.
+-- The number that a switch answers to an event.
 abbrev pub numberAt : Switch Plain → Event → ℕ
 numberAt s e = respond s e .shown .answer .number
 
+-- The number that a start answers.
 abbrev pub numberOfStart : List ℕ → ℕ
 numberOfStart image = startAnswer image .number
 
@@ -37,14 +38,14 @@ pub record Asks (s : Switch Plain) (bytes : List ℕ) (o : Order) : Type 0 where
   pub sound : Sound bytes header
   pub accepted : Accepted o (s .plain .registers) (s .plain .core .mode) header (messageOf bytes)
 
--- The rows 4 to 14 for a received packet: the row's condition, and none of an earlier row. 4 to 8 are the reader's rows, 9 to 13 those of
--- the judgement of a packet that passes them, and 14 is "Start Setup with a wrong password" that passes all of 4 to 13.
+-- 01, Answer numbers, rows 4 to 14, of a received packet: the row's condition, and none of an earlier row. 4 to 8 are the reader's rows, 9 to 13
+-- those of the judgement of a packet that passes them, and 14 is a Start Setup that passes all of these and has a wrong guess.
 pub data PacketRefused (s : Switch Plain) (bytes : List ℕ) : ℕ → Type 0 where
   not-read : (n : ℕ) → (n ≡ 0 → ⊥) → ReadRow bytes n → PacketRefused s bytes n
   not-accepted : (h : Header) (n : ℕ) → Sound bytes h → Refusal (s .plain .registers) (s .plain .core .mode) h (messageOf bytes) n → PacketRefused s bytes n
   wrong-password : (guess : Password) → Asks s bytes (order.Open guess) → (s .password ≡ guess → ⊥) → PacketRefused s bytes 14
 
--- "3: contact above 3"; ticks and restarts have no row of their own.
+-- 01, Answer numbers, row 3, and the rows of a packet; ticks and restarts have no row of their own.
 abbrev pub DeedRefused : Switch Plain → Deed → ℕ → Type 0
 DeedRefused s (press contact) n = (n ≡ 3) × (3 < contact)
 DeedRefused s (release contact) n = (n ≡ 3) × (3 < contact)
@@ -52,13 +53,13 @@ DeedRefused s tick n = ⊥
 DeedRefused s (receive bytes) n = PacketRefused s bytes n
 DeedRefused s restart n = ⊥
 
--- The whole table: "2: buffer shorter than 48" comes first, and "0: done" is where no row applies.
+-- The whole table for an event: row 2 comes first (01, Answer numbers, 1), and row 0 is where no other applies.
 pub data Row (s : Switch Plain) (e : Event) : ℕ → Type 0 where
   no-room : e .room < 48 → Row s e 2
   refused : (n : ℕ) → 48 ≤ e .room → DeedRefused s (e .deed) n → Row s e n
   done : 48 ≤ e .room → ((n : ℕ) → DeedRefused s (e .deed) n → ⊥) → Row s e 0
 
--- "Given exactly when", for every event and every number.
+-- 01, Answer numbers, heading of the table: each number if and only if its row holds, for every event.
 abbrev pub Exactly : Type 0
 Exactly = (s : Switch Plain) (e : Event) (n : ℕ) → (numberAt s e ≡ n) ↔ Row s e n
 
@@ -69,6 +70,7 @@ pub record StartSetup (s : Switch Plain) (d : Deed) : Type 0 where
   pub received : d ≡ receive bytes
   pub asks : Asks s bytes (order.Open guess)
 
+-- A Start Setup whose guess is not the password.
 pub record WrongGuess (s : Switch Plain) (d : Deed) : Type 0 where
   pub start : StartSetup s d
   pub wrong : s .password ≡ start .guess → ⊥
@@ -77,10 +79,11 @@ pub record WrongGuess (s : Switch Plain) (d : Deed) : Type 0 where
 abbrev pub FourteenExactly : Type 0
 FourteenExactly = (s : Switch Plain) (e : Event) → (numberAt s e ≡ 14) ↔ ((48 ≤ e .room) × WrongGuess s (e .deed))
 
--- The numbers that each event can have at all.
+-- The numbers that every event can have.
 abbrev pub Or0Or2 : ℕ → Type 0
 Or0Or2 n = (n ≡ 0) ⊎ (n ≡ 2)
 
+-- The numbers that each event can have at all.
 pub record OnlyThese : Type 0 where
   pub press : (s : Switch Plain) (room contact : ℕ) → Or0Or2 (numberAt s (event room (press contact))) ⊎ (numberAt s (event room (press contact)) ≡ 3)
   pub release : (s : Switch Plain) (room contact : ℕ) → Or0Or2 (numberAt s (event room (release contact))) ⊎ (numberAt s (event room (release contact)) ≡ 3)
@@ -89,30 +92,31 @@ pub record OnlyThese : Type 0 where
       → Or0Or2 (numberAt s (event room (receive bytes))) ⊎ ((4 ≤ numberAt s (event room (receive bytes))) × (numberAt s (event room (receive bytes)) ≤ 14))
   pub restart : (s : Switch Plain) (room : ℕ) → Or0Or2 (numberAt s (event room restart))
 
--- "1: image is not 256 bytes"; else a start is 0.
+-- 01, Answer numbers, rows 0 and 1, of a start.
 pub record StartExactly : Type 0 where
   pub taken : (image : List ℕ) → (numberOfStart image ≡ 0) ↔ (length image ≡ size)
   pub refused : (image : List ℕ) → (numberOfStart image ≡ 1) ↔ (length image ≡ size → ⊥)
 
--- "the lamp blink below for 4 to 8": black, and nothing else of the switch.
+-- 01, Answer numbers, 2 and 01, Lamp, start, factory values, 1 (diagnostic): the switch with the black signal begun, and nothing else changed.
 abbrev pub blackened : Switch Plain → Switch Plain
 blackened s = switch (plain (s .plain .registers) (signalled Black (s .plain .core)) (s .plain .paddles)) (s .password)
 
+-- The numbers of a packet that does not read.
 abbrev pub isGarbled : ℕ → Bool
 isGarbled n = leb 4 n && leb n 8
 
--- "A refusal changes no byte of a buffer and nothing of the switch, except the lamp blink below for 4 to 8." "On a refusal count and
--- lengths are 0 and the rest shows the switch as it stands."
+-- 01, Answer numbers, 2 and 01, Events and time, 8: what a refusal leaves, sends and shows.
 pub record Unchanged (s : Switch Plain) (e : Event) : Type 0 where
   pub next : respond s e .next ≡ (if isGarbled (numberAt s e) then blackened s else s)
   pub sent : respond s e .shown .sent ≡ []
   pub bytes : (out : List ℕ) → placed (respond s e .shown .sent) out ≡ out
   pub answer : respond s e .shown .answer ≡ answerOf (numberAt s e) [] (respond s e .next .plain)
 
+-- It holds of every number but 0.
 abbrev pub RefusalsChangeNothing : Type 0
 RefusalsChangeNothing = (s : Switch Plain) (e : Event) → (numberAt s e ≡ 0 → ⊥) → Unchanged s e
 
--- "An edge that finds its contact already so is 0 and alters nothing."
+-- 01, Answer numbers, 4: answered 0, and nothing altered or sent.
 pub record Idle (s : Switch Plain) (e : Event) : Type 0 where
   pub number : numberAt s e ≡ 0
   pub next : respond s e .next ≡ s
@@ -122,6 +126,7 @@ pub record Idle (s : Switch Plain) (e : Event) : Type 0 where
 abbrev pub downAt : ℕ → Switch Plain → Bool
 downAt contact s = touched (kindOf contact) (paddleAt contact (s .plain .paddles))
 
+-- 01, Answer numbers, 4: pressing what is down, releasing what is up.
 pub record AlreadySo : Type 0 where
   pub press : (s : Switch Plain) (room contact : ℕ) → 48 ≤ room → contact ≤ 3 → downAt contact s ≡ true → Idle s (event room (press contact))
   pub release : (s : Switch Plain) (room contact : ℕ) → 48 ≤ room → contact ≤ 3 → downAt contact s ≡ false → Idle s (event room (release contact))

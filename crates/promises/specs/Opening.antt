@@ -37,7 +37,7 @@ Enters s e = (48 ≤ e .room) × (ByPassword s (e .deed) ⊎ ByFiveTaps s (e .de
 abbrev pub OnlySo : Type 0
 OnlySo = (s : Switch Plain) (e : Event) → Outside s → inSetup (respond s e .next .plain .core .mode) ≡ true → Enters s e
 
--- The first of them always opens it.
+-- Such a Start Setup always opens it.
 abbrev pub PasswordOpens : Type 0
 PasswordOpens =
     (s : Switch Plain) (e : Event) → 48 ≤ e .room → ByPassword s (e .deed)
@@ -47,7 +47,7 @@ PasswordOpens =
 abbrev pub startSetup : Header → Password → List ℕ
 startSetup h w = packed h (0x03 ∷ w .0 ∷ w .1 ∷ [])
 
--- "the full switch of demand 2, which the right password does open": for every password, from every source, on network 0 or our own.
+-- The letter, demand 3, 4: the right password opens this switch, for every password, from every source, on network 0 or our own.
 abbrev pub RightPasswordOpens : Type 0
 RightPasswordOpens =
     (s : Switch Plain) (room : ℕ) (h : Header) → 48 ≤ room → s .plain .core .mode ≡ Normal
@@ -56,6 +56,7 @@ RightPasswordOpens =
     → (numberAt s (event room (receive (startSetup h (s .password)))) ≡ 0)
     × (respond s (event room (receive (startSetup h (s .password)))) .next .plain .core .mode ≡ Setup)
 
+-- All that is promised of what opens Setup.
 pub record Opening : Type 0 where
   pub only : OnlySo
   pub password : PasswordOpens

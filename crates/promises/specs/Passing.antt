@@ -38,27 +38,29 @@ closed count (gestures.Taps n) = eqb n count
 closed count gestures.Hold = false
 closed count gestures.Release = false
 
--- The gesture enters Setup: five taps that find Normal. It sets the factory values: ten taps that find Setup.
+-- The gesture enters Setup: five taps that find Normal.
 unfoldable pub opens : Mode → Gesture → Bool
 opens Normal g = closed 5 g
 opens Setup g = false
 opens Factory g = false
 
+-- The gesture sets the factory values: ten taps that find Setup.
 unfoldable pub resets : Mode → Gesture → Bool
 resets Normal g = false
 resets Setup g = closed 10 g
 resets Factory g = false
 
--- How many gestures of a tick enter Setup, and whether one sets the factory values.
+-- How many gestures of a tick enter Setup.
 unfoldable pub openings : Mode → List Paddle → ℕ
 openings mode [] = 0
 openings mode (p ∷ ps) = (if opens mode (gesture p) then 1 else 0) + openings (leads mode (gesture p)) ps
 
+-- Whether a gesture of a tick sets the factory values.
 unfoldable pub reset : Mode → List Paddle → Bool
 reset mode [] = false
 reset mode (p ∷ ps) = resets mode (gesture p) || reset (leads mode (gesture p)) ps
 
--- So many more in a counter, which stops at 255.
+-- 01, Registers, 8: so many more in a counter, which stops at 255.
 unfoldable pub countedBy : ℕ → ℕ → ℕ
 countedBy zero old = old
 countedBy (suc n) old = countedBy n (oneMore old)
@@ -72,27 +74,29 @@ tickedByte s level place old =
     else if reset (s .plain .core .mode) (s .plain .paddles) then byteAfter write.Factory [] place old
     else old
 
--- All 256 registers after any tick, in any mode, with any number of paddles.
+-- All 256 registers after any tick, in any mode.
 abbrev pub EveryTick : Type 0
 EveryTick =
     (s : Switch Plain) (room place : ℕ) → 48 ≤ room → Sane (s .plain) → place < size
     → byteAt (respond s (event room tick) .next) place ≡ tickedByte s (respond s (event room tick) .next .plain .core .dimmer .level) place (byteAt s place)
 
--- Which ticks set the factory values: those in which a paddle closes ten taps and finds Setup. Setup may be the mode before the tick, or
--- made within it; the mode after it may be any.
+-- The next tick sets the factory values: a paddle closes ten taps in it and finds Setup. Setup may be the mode before the tick, or made within
+-- it; the mode after it may be any.
 pub record SetsFactory (s : Switch Plain) : Type 0 where
   pub paddle : ℕ
   pub closes : Closes s paddle Setup 10
 
+-- `reset` says just that.
 abbrev pub FactoryExactly : Type 0
 FactoryExactly = (s : Switch Plain) → (reset (s .plain .core .mode) (s .plain .paddles) ≡ true) ↔ SetsFactory s
 
--- From outside Setup it takes five taps of an earlier paddle.
+-- An earlier paddle closes five taps and finds Normal.
 pub record OpenedBefore (s : Switch Plain) (i : ℕ) : Type 0 where
   pub paddle : ℕ
   pub earlier : paddle < i
   pub closes : Closes s paddle Normal 5
 
+-- To set the factory values from outside Setup takes five taps of an earlier paddle in the same tick.
 abbrev pub FactoryFromOutside : Type 0
 FactoryFromOutside = (s : Switch Plain) (i : ℕ) → Outside s → Closes s i Setup 10 → OpenedBefore s i
 
@@ -114,41 +118,46 @@ UnseenExactly =
 abbrev pub UnseenCounts : Type 0
 UnseenCounts = (s : Switch Plain) → PassesUnseen s → 1 ≤ openings (s .plain .core .mode) (s .plain .paddles)
 
--- With a top and a bottom paddle: five taps of the top, and two or ten of the bottom that close at the same tick.
+-- With a top and a bottom paddle: five taps of the top, and so many of the bottom that close at the same tick.
 pub record BothClose (s : Switch Plain) (count : ℕ) : Type 0 where
   pub mode : s .plain .core .mode ≡ Normal
   pub top : gesture (getD (s .plain .paddles) 0 freshPaddle) ≡ gestures.Taps 5
   pub bottom : gesture (getD (s .plain .paddles) 1 freshPaddle) ≡ gestures.Taps count
 
+-- Those ticks are the ones in which five taps of the top meet two or ten of the bottom.
 abbrev pub OfTwoPaddles : Type 0
 OfTwoPaddles = (s : Switch Plain) → Sane (s .plain) → PassesUnseen s ↔ (BothClose s 2 ⊎ BothClose s 10)
 
--- Both kinds are reached from every start, by the paddles alone: a tap of the top with these events in it ..
+-- A press of the top paddle with these events in it.
 abbrev pub around : List Event → List Event
 around es = with48 (press 0) ∷ (es ++ with48 (release 0) ∷ [])
 
--- .. three of them alone and two with a tap of the bottom in each, or five with two of the bottom in each; then the ticks before the one
--- that closes both runs.
+-- A tap of the top alone.
 abbrev pub tapAlone : List Event
 tapAlone = around (ticksOf 60)
 
+-- A tap of the top with a tap of the bottom in it.
 abbrev pub withOne : List Event
 withOne = around (pressOf 60 1)
 
+-- A tap of the top with two of the bottom in it.
 abbrev pub withTwo : List Event
 withTwo = around (pressOf 60 1 ++ pressOf 60 1)
 
+-- Five taps of the top and two of the bottom, and the ticks before the one that closes both runs.
 abbrev pub throughToNormal : List Event
 throughToNormal = tapAlone ++ (tapAlone ++ (tapAlone ++ (withOne ++ (withOne ++ ticksOf 179))))
 
+-- Five taps of the top and ten of the bottom, and the ticks before the one that closes both runs.
 abbrev pub throughToFactory : List Event
 throughToFactory = withTwo ++ (withTwo ++ (withTwo ++ (withTwo ++ (withTwo ++ ticksOf 179))))
 
--- What the next tick does there: it passes Setup unseen and leaves this mode.
+-- The next tick passes Setup unseen and leaves this mode.
 pub record Reaches (s : Switch Plain) (to : Mode) : Type 0 where
   pub passes : PassesUnseen s
   pub mode : respond s (with48 tick) .next .plain .core .mode ≡ to
 
+-- Both kinds are reached from every start, by the paddles alone.
 pub record ReachedByTaps : Type 0 where
   pub normal : (image : List ℕ) → Reaches (runOf (startedFrom image) throughToNormal) Normal
   pub factory : (image : List ℕ) → Reaches (runOf (startedFrom image) throughToFactory) Factory

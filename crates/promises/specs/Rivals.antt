@@ -1,4 +1,4 @@
--- "How much each contract says": the five wrong switches, tried against the contract that every event function has, and no two outcomes.
+-- 01, How much each contract says: the five wrong switches, tried against the contract that every event function has, and no two outcomes.
 use mathlib.Core.List.{List, []}
 use mathlib.Core.Path.{_≡_}
 use Prim.Native.Nat.{ℕ, zero, suc}
@@ -46,28 +46,28 @@ honest before deed live all out =
     let a = respond (held live all) (event (length out) deed) in
     told (a .shown .answer) (liveIn (a .next)) (a .next .plain .registers) (placed (a .shown .sent) out)
 
--- "a switch that refuses everything", by whatever number
+-- 01, How much each contract says, 3: the first rival refuses all events, by one number, and changes nothing.
 abbrev pub refusing : ℕ → Rival
 refusing number before deed live all out = told (answerWith number (tally []) all (live .core)) live all out
 
--- "one with a fixed answer", honest in all else
+-- 01, How much each contract says, 3: the second always gives one answer, and is honest in all else.
 abbrev pub fixed : Answer → Rival
 fixed answer before deed live all out =
     let h = honest before deed live all out in
     told answer (h .live) (h .registers) (h .buffer)
 
--- "one that ignores events", whatever it answers and sends
+-- 01, How much each contract says, 3: the third keeps its state, whatever it answers and sends.
 abbrev pub deaf : Rival → Rival
 deaf other before deed live all out =
     let o = other before deed live all out in
     told (o .answer) live all (o .buffer)
 
--- "one honest at the first event only": after it, nothing more happens
+-- 01, How much each contract says, 3: the fourth is honest at its first event; after it the state is kept.
 abbrev pub once : Rival
 once zero deed live all out = honest zero deed live all out
 once (suc before) deed live all out = deaf honest (suc before) deed live all out
 
--- "one with an invented packet count", honest in all else
+-- An answer with another count of packets.
 abbrev pub counting : ℕ → Answer → Answer
 counting count a =
     record {
@@ -79,12 +79,13 @@ counting count a =
       mode = a .mode;
     }
 
+-- 01, How much each contract says, 3: the fifth makes up the count of packets, and is honest in all else.
 abbrev pub inventing : ℕ → Rival
 inventing count before deed live all out =
     let h = honest before deed live all out in
     told (counting count (h .answer)) (h .live) (h .registers) (h .buffer)
 
--- The contract can be met, and none of the five meets it.
+-- 01, How much each contract says, 4: the contract can be met, and none of the five meets it.
 pub record ShutsOut : Type 0 where
   pub honest : Meets honest
   pub refusing : (number : ℕ) → (number ≡ 0 → ⊥) → Meets (refusing number) → ⊥
@@ -93,8 +94,8 @@ pub record ShutsOut : Type 0 where
   pub once : Meets once → ⊥
   pub inventing : (count : ℕ) → Meets (inventing count) → ⊥
 
--- "Prove that no two outcomes satisfy it": two that meet the contract of an event, or of a start, are equal in the answer, in all that the
--- switch holds, in every register and in every byte of the buffer.
+-- 01, How much each contract says, 2: two that meet the contract of an event, or of a start, are equal in the answer, in all that the switch
+-- holds, in every register and in every byte of the buffer.
 pub record OneOutcome : Type 0 where
   pub event : (deed : Deed) (live : Live) (all out : List ℕ) (a b : Answer) (live′ live″ : Live) (all′ all″ out′ out″ : List ℕ)
       → Responds deed live all out a live′ all′ out′ → Responds deed live all out b live″ all″ out″

@@ -19,13 +19,14 @@ use Rattle.promises.specs.Passing.{Passing}
 use Rattle.promises.specs.Presets.{Presets}
 use Rattle.promises.specs.Clock.{Clock}
 
--- Demand 1: every event and every start is answered, each number exactly when its row says, and what a refusal leaves is laid down.
+-- Demand 1: every event and every start is answered, each number exactly when its row says, the writer's too, and what a refusal leaves is laid
+-- down.
 pub record Demand1 : Type 0 where
   pub numbers : Numbers
   pub writer : WrittenExactly
   pub refused-start : RefusedStartLeavesAll
 
--- Packets are read and written by one layout, and each direction undoes the other; what the switch sends, its own reader takes.
+-- The letter, demand 2, 2: one layout serves reader and writer, which undo each other; what the switch sends, its own reader takes.
 pub record OneLayout : Type 0 where
   pub reader : ReadExactly
   pub reads-back : ReadsBack
@@ -38,7 +39,8 @@ pub record OneLayout : Type 0 where
   pub announced : AnnouncedReads
   pub replied : RepliedReads
 
--- The library in plain numbers: it loses nothing, touches nothing that it need not, forgets what stood there before a start, and is one.
+-- The library in plain numbers: it loses nothing, touches nothing that it need not, forgets what stood there before a start, and has one
+-- outcome.
 pub record Library : Type 0 where
   pub back : MirrorsBack
   pub keeps : KeepsWhatItRead
@@ -58,8 +60,8 @@ pub record Demand2 : Type 0 where
   pub layout : OneLayout
   pub library : Library
 
--- What else we answer for: what opens Setup, what can alter a register or a preset, what a tick that passes Setup unseen does, what a
--- reply never shows, and that the clock does not cut the deck.
+-- What else we answer for: what opens Setup, which mode each gesture of a tick finds, what can alter a register or a preset, what a tick that
+-- passes Setup unseen does, what no packet shows of the password's places, and that the clock does not cut the deck.
 pub record Besides : Type 0 where
   pub opening : Opening
   pub modes : FindsModes
@@ -69,6 +71,7 @@ pub record Besides : Type 0 where
   pub hides : Hides
   pub clock : Clock
 
+-- The one promise: the three demands, and what else we answer for.
 pub record AnsweredFor : Type 0 where
   pub demand-1 : Demand1
   pub demand-2 : Demand2

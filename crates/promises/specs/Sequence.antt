@@ -20,6 +20,7 @@ pub record Call (Told : Type 0) : Type 0 where
   pub answer : Told
   pub buffer : List ℕ
 
+-- The events of some calls, with their buffers.
 abbrev pub lents : {Told : Type 0} → List (Call Told) → List Lent
 lents cs = map (λ c. c .lent) cs
 
@@ -37,20 +38,21 @@ pub data Calls : Live → List ℕ → List (Call Answer) → Live → List ℕ 
       → Responds (c .lent .deed) live all (c .lent .buffer) (c .answer) live′ all′ (c .buffer)
       → Calls live′ all′ cs live″ all″ → Calls live all (c ∷ cs) live″ all″
 
--- Whoever starts a switch from 256 bytes and makes any list of calls.
+-- Whoever starts a switch from 256 bytes and makes any list of calls is given the answers, the packets and the switch of the definitions.
 abbrev pub AfterAnyCalls : Type 0
 AfterAnyCalls =
     (image all : List ℕ) (a : Answer) (live live″ : Live) (all′ all″ : List ℕ) (cs : List (Call Answer)) → length image ≡ size
     → Starts image all a live all′ → Calls live all′ cs live″ all″
     → (a ≡ answerOf 0 [] (startedFrom image .plain)) × Given (λ b. b) (startedFrom image) cs (held live″ all″)
 
--- The same for the C library, which is what is shipped: a switch is its counters, its numbers and its registers.
+-- Calls of the C library one after the other: a switch is its counters, its numbers and its registers.
 pub data Spoken : List ℕ → List ℕ → List ℕ → List (Call Figures) → List ℕ → List ℕ → List ℕ → Type 0 where
   silent : (counters numbers all : List ℕ) → Spoken counters numbers all [] counters numbers all
   said : (c : Call Figures) (cs : List (Call Figures)) (counters counters′ counters″ numbers numbers′ numbers″ all all′ all″ : List ℕ)
       → Speaks (c .lent .deed) counters numbers all (c .lent .buffer) (c .answer) counters′ numbers′ all′ (c .buffer)
       → Spoken counters′ numbers′ all′ cs counters″ numbers″ all″ → Spoken counters numbers all (c ∷ cs) counters″ numbers″ all″
 
+-- The same for the C library.
 abbrev pub AfterAnySpoken : Type 0
 AfterAnySpoken =
     (image counters numbers all : List ℕ) (r : Figures) (counters′ counters″ numbers′ numbers″ all′ all″ : List ℕ) (cs : List (Call Figures))

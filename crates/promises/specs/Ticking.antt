@@ -33,7 +33,7 @@ use Rattle.switch.specs.Switch.{Deed, Event, Plain, Shown, event, plain, press,
 use Rattle.switch.specs.Events.{paddleAt, paddleOf}
 use Rattle.switch.specs.Respond.{respond, wallSwitch}
 
--- Events of one kind with a buffer of 48 bytes, and a press of so many ticks.
+-- An event with a buffer of 48 bytes.
 abbrev pub with48 : Deed → Event
 with48 d = event 48 d
 
@@ -41,13 +41,16 @@ with48 d = event 48 d
 abbrev pub RoomToSpare : Type 0
 RoomToSpare = (s : Switch Plain) (room : ℕ) (d : Deed) → 48 ≤ room → respond s (event room d) ≡ respond s (with48 d)
 
+-- So many ticks.
 unfoldable pub ticksOf : ℕ → List Event
 ticksOf zero = []
 ticksOf (suc n) = with48 tick ∷ ticksOf n
 
+-- A press of so many ticks, and its release.
 abbrev pub pressOf : ℕ → ℕ → List Event
 pressOf n contact = with48 (press contact) ∷ ticksOf n ++ with48 (release contact) ∷ []
 
+-- The switch after some events.
 abbrev pub runOf : Switch Plain → List Event → Switch Plain
 runOf s es = run (machine wallSwitch) s es
 
@@ -55,17 +58,19 @@ runOf s es = run (machine wallSwitch) s es
 abbrev pub paddleAfter : Switch Plain → ℕ → List Event → Paddle
 paddleAfter s contact es = paddleAt contact (runOf s es .plain .paddles)
 
--- The dimmer, the level that it holds, and the mode.
+-- The dimmer of a switch.
 abbrev pub dimmerIn : Switch Plain → Dimmer
 dimmerIn s = s .plain .core .dimmer
 
+-- The level that it holds.
 abbrev pub levelIn : Switch Plain → Step
 levelIn s = dimmerIn s .level
 
+-- The mode of a switch.
 abbrev pub modeIn : Switch Plain → Mode
 modeIn s = s .plain .core .mode
 
--- No flash runs, as it does for 120 ticks after a mode change.
+-- 01, Paddles, 10: no flash runs, as it does for 120 ticks after a mode change.
 abbrev pub Steady : Switch Plain → Type 0
 Steady s = s .plain .core .lamp .flash ≡ 0
 
@@ -85,10 +90,11 @@ pub record Shows (kind : Mode) (to : Step) (packets : List (List ℕ)) (x : Show
 abbrev pub Unmoved : Switch Plain → List Event → Type 0
 Unmoved s es = Throughout (machine wallSwitch) (λ t e. Shows (modeIn s) (levelIn s) [] (respond t e .shown)) s es
 
--- What the next tick shows, and what the nth tick from now shows, n counted from 1.
+-- What the next tick shows.
 abbrev pub nextTick : Switch Plain → Shown
 nextTick s = respond s (with48 tick) .shown
 
+-- What the nth tick from now shows, n counted from 1.
 abbrev pub nthTick : Switch Plain → ℕ → Shown
 nthTick s n = nextTick (runOf s (ticksOf (n - 1)))
 
@@ -98,32 +104,36 @@ nthTick s n = nextTick (runOf s (ticksOf (n - 1)))
 abbrev pub Silent : ℕ → Switch Plain → Type 0
 Silent n s = (contact k : ℕ) → k < n → gesture (paddleTicks k (paddleAt contact (s .plain .paddles))) ≡ Nothing
 
--- Its nth tick is answered 0, sends nothing and leaves the mode, and the level is the dimmer's closed form after n ticks, whatever fades or
--- blinks.
+-- The nth tick of a silent switch is answered 0, sends nothing and leaves the mode, and the level is the dimmer's closed form after n ticks,
+-- whatever fades or blinks.
 abbrev pub LeftToItself : Type 0
 LeftToItself =
     (s : Switch Plain) (n : ℕ) → length (s .plain .paddles) ≡ 2 → Steady s → Silent n s → 1 ≤ n
     → Shows (modeIn s) (tickedBy n (dimmerIn s) .level) [] (nthTick s n)
 
--- All that it holds after n such ticks, but the password, which it keeps. Each counter has its closed form. The registers stay, but for 0xF9
--- where the level was saved in these ticks: it has the percent of the last of those ticks, and `unsaved` is how many came after that one.
+-- Where n ticks save the level, how many of them come after the last one that does.
 abbrev pub unsaved : ℕ → ℕ → ℕ
 unsaved n save = less saveTicks - metronomeBy n saveTicks save
 
+-- The level that the last of them saves.
 abbrev pub savedLevel : ℕ → Core → Step
 savedLevel n c = tickedBy (n - unsaved n (c .save)) (c .dimmer) .level
 
+-- The registers after n silent ticks: they stay, but for 0xF9 where the level is saved.
 unfoldable pub registersBy : ℕ → Plain → List ℕ
 registersBy n p =
     if eqb (beatsBy n saveTicks (p .core .save)) 0 then p .registers
     else applied (Save (percentOf (savedLevel n (p .core)))) [] (p .registers)
 
+-- The core after n silent ticks: each counter has its closed form.
 abbrev pub coreBy : ℕ → Core → Core
 coreBy n c = core (c .mode) (tickedBy n (c .dimmer)) (lampSkip n (c .lamp)) (metronomeBy n saveTicks (c .save))
 
+-- All that a switch holds after n silent ticks, but the password.
 abbrev pub plainBy : ℕ → Plain → Plain
 plainBy n p = plain (registersBy n p) (coreBy n (p .core)) (map (paddleSkip n) (p .paddles))
 
+-- So it is after n ticks in which no paddle completes a gesture; the password is kept.
 abbrev pub TicksAtOnce : Type 0
 TicksAtOnce =
     (s : Switch Plain) (n : ℕ) → length (s .plain .paddles) ≡ 2 → Silent n s → runOf s (ticksOf n) ≡ switch (plainBy n (s .plain)) (s .password)
@@ -135,20 +145,21 @@ pub record AtRest (s : Switch Plain) : Type 0 where
   pub up : (contact : ℕ) → down (paddleAt contact (s .plain .paddles)) ≡ false
   pub untapped : (contact : ℕ) → paddleAt contact (s .plain .paddles) .taps ≡ 0
 
--- It is silent for good.
+-- A switch at rest is silent for good.
 abbrev pub RestIsSilent : Type 0
 RestIsSilent = (s : Switch Plain) (n : ℕ) → AtRest s → Silent n s
 
 -- ---- what a gesture of a contact's paddle shows
 
--- The dimmer after its act, and the packets that it sends at a level.
+-- The dimmer after the act of a gesture.
 abbrev pub dimmerBy : Gesture → ℕ → Switch Plain → Dimmer
 dimmerBy g contact s = acted (s .plain .registers) (paddleOf contact) g (s .plain .core) .core .dimmer
 
+-- The packets that a gesture sends at a level.
 abbrev pub packetsBy : Gesture → ℕ → Switch Plain → Step → List (List ℕ)
 packetsBy g contact s level = announced (s .plain .registers) (modeIn s) (paddleOf contact) g (percentOf level)
 
--- It acts, sends at the level after the act, and leaves the mode.
+-- A gesture acts, sends at the level after the act, and leaves the mode.
 abbrev pub ShowsGesture : Gesture → ℕ → Switch Plain → Shown → Type 0
 ShowsGesture g contact s x = Shows (modeIn s) (dimmerBy g contact s .level) (packetsBy g contact s (dimmerBy g contact s .level)) x
 
@@ -194,7 +205,7 @@ unfoldable pub repeated : ℕ → Colour → List Colour
 repeated zero c = []
 repeated (suc n) c = c ∷ repeated n c
 
--- Each colour for 60 answers, and black for 60 after it.
+-- 01, Lamp, start, factory values, 1 (version): each colour for 60 answers, and black for 60 after it.
 unfoldable pub blinks : List Colour → List Colour
 blinks [] = []
 blinks (c ∷ cs) = repeated 60 c ++ (repeated 60 Black ++ blinks cs)
