@@ -1,4 +1,4 @@
--- What a line of a script does to the switch on the desk, and what is written of it.
+-- What a line of a script does to the switch on the desk, and what is written of it (docs/SCRIPT.md).
 use Prim.Native.Char.{code}
 use Prim.Native.Nat.{ℕ}
 use mathlib.Core.Bool.{Bool, true, false, not, _&&_}
@@ -42,11 +42,11 @@ pub record Done : Type 0 where
 abbrev pub done : Scene → List ℕ → Done
 done after text = record { after = after; text = text }
 
--- The start of a script: no switch, and "48 at the start".
+-- The start of a script: no switch, and a buffer of 48 bytes.
 abbrev pub emptyDesk : Desk
 emptyDesk = record { there = false; live = nobody; room = 48 }
 
--- "The buffer is filled with 0xAA before every event."
+-- Before every event each lent byte is made 0xAA.
 abbrev pub filled : List ℕ → List ℕ
 filled out = replicate (length out) 0xAA
 
@@ -58,20 +58,20 @@ happened say deed s =
     let bytes = placed (response .shown .sent) lent in
     done (scene (s .there) (response .next) (s .room) (bytes ++ drop (s .room) (s .buffer))) (say (response .shown .answer) bytes)
 
--- "An event, or d, with no switch prints `E none`"
+-- An event where there is no switch is not one: `none` is written.
 unfoldable pub told : ℕ → Deed → Scene → Done
 told letter deed s = if not (s .there) then done s (none letter) else happened (answered letter) deed s
 
--- docs/SCRIPT.md, `i`: a count other than 256 is refused, and then there is no switch. No buffer.
+-- `i`: a count other than 256 is refused, and then there is no switch. No buffer is lent.
 unfoldable pub begun : List ℕ → Scene → Done
 begun image s =
     done (scene (whole image) (startNext image (s .switch .plain .registers)) (s .room) (s .buffer)) (started (startAnswer image))
 
--- "`d HEX`: the 256 registers in lower-case hex, password included."
+-- `d`: the 256 registers, the password among them, where there is a switch.
 unfoldable pub shownOf : Bool → Switch Plain → List ℕ
 shownOf there s = if not there then none (code "d") else dump (imageOf (s .plain .registers) (s .password))
 
--- "`t N` with N above 0 once, as `t none`": what is written before any tick
+-- `t` with no switch: written once, before any tick, unless it asks for none.
 unfoldable pub awaited : ℕ → Bool → List ℕ
 awaited ticks there = if there then [] else if eqb ticks 0 then [] else none (code "t")
 
@@ -88,7 +88,7 @@ played number (Packet n) bytes s = told (code "k") (receive (take n bytes)) s
 played number Restart bytes s = told (code "x") restart s
 played number Dump bytes s = done s (shownOf (s .there) (s .switch))
 
--- "N ticks, one event each": how many ticks a line asks of the switch, where there is one.
+-- How many ticks a line asks of the switch, where there is one.
 unfoldable pub ticksOf : Line → Bool → ℕ
 ticksOf Pass there = 0
 ticksOf Unread there = 0
@@ -106,7 +106,7 @@ pub record Plays (meant : Done) (page : Page) (desk : Desk) (all buffer : List �
   pub after : sceneOf desk all buffer ≡ meant .after
   pub written : page′ ≡ puts (meant .text) page
 
--- An event as the code has it, the packet beside it: its letter, and what it is to the switch.
+-- The letter of an event, as the code has it.
 abbrev pub letterOf : Event → ℕ
 letterOf (happens.Press contact) = code "p"
 letterOf (happens.Release contact) = code "r"
@@ -114,6 +114,7 @@ letterOf happens.Tick = code "t"
 letterOf happens.Packet = code "k"
 letterOf happens.Restart = code "x"
 
+-- What such an event is to the switch; the packet stands beside it.
 abbrev pub deedOf : Event → List ℕ → Deed
 deedOf (happens.Press contact) packet = press contact
 deedOf (happens.Release contact) packet = release contact
@@ -121,7 +122,7 @@ deedOf happens.Tick packet = tick
 deedOf happens.Packet packet = receive packet
 deedOf happens.Restart packet = restart
 
--- "runs of consecutive ticks whose lines are equal": byte for byte
+-- Two rows are equal, byte for byte: ticks with equal rows are written as one run.
 unfoldable pub same : List ℕ → List ℕ → Bool
 same [] [] = true
 same [] (byte ∷ rest) = false

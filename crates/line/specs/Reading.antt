@@ -1,4 +1,4 @@
--- How a line of a script is read: what it says, and the bytes that its hex stands for.
+-- How a line of a script is read (docs/SCRIPT.md): what it says, and the bytes that its hex stands for.
 use Prim.Native.Nat.{ℕ, _+_, _-_, _*_, _/_, _%_}
 use mathlib.Core.Bool.{Bool, true, not, _&&_, _||_}
 use mathlib.Core.List.{List, [], _∷_, _++_}
@@ -11,24 +11,24 @@ use Rattle.line.specs.declared.read.Line.the-variants.{Pass, Unread, Ima
 use Rattle.line.specs.declared.read.Number.{Number}
 use Rattle.line.specs.declared.read.Number.the-variants.{Is, Not}
 
--- "One CR just before the line's end is passed over."
+-- A CR at a line's end is passed over, one only.
 unfoldable pub bare : List ℕ → List ℕ
 bare text = if eqb (getD text (length text - 1) 0) 0x0D then take (length text - 1) text else text
 
--- "spaces and tabs"
+-- A space or a tab.
 unfoldable pub gap : ℕ → Bool
 gap byte = eqb byte 0x20 || eqb byte 0x09
 
--- "Blank: nothing but spaces and tabs, or no bytes at all."
+-- Nothing but spaces and tabs.
 unfoldable pub blank : List ℕ → Bool
 blank [] = true
 blank (byte ∷ rest) = gap byte && blank rest
 
--- one of the bytes from the first to the last
+-- One of the bytes from the first to the last.
 abbrev pub between : ℕ → ℕ → ℕ → Bool
 between first byte last = leb first byte && ltb byte (last + 1)
 
--- what a digit stands for, 0 to 9, A to F and a to f; 255 for any other byte
+-- What a digit stands for, 0 to 9, A to F and a to f; 255 for any other byte.
 unfoldable pub digitOf : ℕ → ℕ
 digitOf byte =
     if between 0x30 byte 0x39 then byte - 0x30
@@ -36,48 +36,48 @@ digitOf byte =
     else if between 0x61 byte 0x66 then byte - 0x61 + 10
     else 255
 
--- every byte is a digit to the base
+-- Every byte is a digit to the base.
 unfoldable pub digits : ℕ → List ℕ → Bool
 digits base [] = true
 digits base (byte ∷ rest) = ltb (digitOf byte) base && digits base rest
 
--- the value of decimal digits behind others that come to `before`: each digit makes it ten times as much and itself more
+-- The value of decimal digits behind others that come to `before`: each digit makes it ten times as much and itself more.
 unfoldable pub value : ℕ → List ℕ → ℕ
 value before [] = before
 value before (byte ∷ rest) = value (10 * before + digitOf byte) rest
 
--- "within its range"
+-- A number is read up to its limit.
 unfoldable pub within : ℕ → ℕ → Number
 within limit n = if ltb limit n then Not else Is n
 
--- "A number is one or more decimal digits, leading zeros allowed, and within its range"
+-- A number: at least one decimal digit, and up to its limit. Zeros may stand in front.
 unfoldable pub numberOf : ℕ → List ℕ → Number
 numberOf limit text =
     if eqb (length text) 0 then Not
     else if not (digits 10 text) then Not
     else within limit (value 0 text)
 
--- "Hex is one or more pairs of hex digits, upper or lower case"; what there is no room for does not read
+-- Hex: at least one pair of hex digits. What there is no room for does not read.
 unfoldable pub hex : ℕ → List ℕ → Bool
 hex room text =
     leb 1 (length text)
     && (eqb (length text % 2) 0 && (leb (length text / 2) room && digits 16 text))
 
--- the bytes that its pairs stand for, the high digit first
+-- The bytes that its pairs stand for, the high digit first.
 unfoldable pub hexOf : List ℕ → List ℕ
 hexOf [] = []
 hexOf (high ∷ []) = []
 hexOf (high ∷ low ∷ rest) = (16 * digitOf high + digitOf low) ∷ hexOf rest
 
--- `i` (0x69): "the image given in hex"
+-- `i` (0x69): an image in hex.
 unfoldable pub imageOf : ℕ → List ℕ → Line
 imageOf room argument = if not (hex room argument) then Unread else Image (length argument / 2)
 
--- "`-` stands for no bytes"
+-- A dash alone (0x2D): no bytes.
 unfoldable pub dash : List ℕ → Bool
 dash text = eqb (length text) 1 && eqb (getD text 0 0) 0x2D
 
--- `k` (0x6B): "a received packet of 1 to 256 bytes; the empty one"
+-- `k` (0x6B): a packet of 1 to 256 bytes in hex, or a dash for the empty one.
 unfoldable pub packetOf : ℕ → List ℕ → Line
 packetOf room argument =
     if dash argument then Packet 0
@@ -85,14 +85,14 @@ packetOf room argument =
     else if ltb 256 (length argument / 2) then Unread
     else Packet (length argument / 2)
 
--- "`p`, `r`: 0 to 255; `b`: 0 to 4096; `t`: 0 to 4,294,967,295"
+-- The range of a letter's number: `b` (0x62), `t` (0x74), and the contacts of `p` and `r`.
 unfoldable pub limitOf : ℕ → ℕ
 limitOf letter =
     if eqb letter 0x62 then 4096
     else if eqb letter 0x74 then 4294967295
     else 255
 
--- `b` (0x62), `p` (0x70), `r` (0x72), `t` (0x74) with their number
+-- `b` (0x62), `p` (0x70), `r` (0x72), `t` (0x74) with their number.
 unfoldable pub numbered : ℕ → Number → Line
 numbered letter Not = Unread
 numbered letter (Is n) =
@@ -102,25 +102,25 @@ numbered letter (Is n) =
     else if eqb letter 0x74 then Ticks n
     else Unread
 
--- the number is read within its letter's range
+-- The number is read within its letter's range.
 unfoldable pub counted : ℕ → List ℕ → Line
 counted letter argument = numbered letter (numberOf (limitOf letter) argument)
 
--- a letter and what stands behind its space
+-- A letter and what stands behind its space.
 unfoldable pub told : ℕ → ℕ → List ℕ → Line
 told room letter argument =
     if eqb letter 0x69 then imageOf room argument
     else if eqb letter 0x6B then packetOf room argument
     else counted letter argument
 
--- "`x` and `d` stand alone."
+-- `x` (0x78) and `d` (0x64) have no argument.
 unfoldable pub alone : ℕ → Line
 alone letter =
     if eqb letter 0x78 then Restart
     else if eqb letter 0x64 then Dump
     else Unread
 
--- "A comment has `#` as its very first byte." "Between the letter and its argument stands one space"
+-- A blank line and a comment, which begins with `#` (0x23), say nothing. One space stands between a letter and its argument.
 unfoldable pub said : ℕ → List ℕ → Line
 said room line =
     if blank line then Pass
@@ -129,11 +129,11 @@ said room line =
     else if not (eqb (getD line 1 0) 0x20) then Unread
     else told room (getD line 0 0) (drop 2 line)
 
--- "A line of more than 2,048 bytes (its CR counted, its newline not) prints `? LINE`, whatever it begins with."
+-- A line of more than 2,048 bytes, a CR counted, does not read.
 unfoldable pub lineOf : ℕ → List ℕ → Line
 lineOf room text = if ltb 2048 (length text) then Unread else said room (bare text)
 
--- the bytes that a line brings: those of its argument's hex, or none
+-- The bytes that a line brings: those of its argument's hex, or none.
 unfoldable pub bytesOf : Line → List ℕ → List ℕ
 bytesOf Pass argument = []
 bytesOf Unread argument = []
@@ -146,7 +146,7 @@ bytesOf (Packet n) argument = hexOf argument
 bytesOf Restart argument = []
 bytesOf Dump argument = []
 
--- bytes laid in front of the lent ones, the rest as they were
+-- Bytes laid in front of the lent ones, the rest as they were.
 unfoldable pub laid : List ℕ → List ℕ → List ℕ
 laid front before = front ++ drop (length front) before
 

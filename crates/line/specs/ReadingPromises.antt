@@ -30,16 +30,16 @@ OneOutcome =
 unfoldable pub lowered : ℕ → ℕ
 lowered byte = if between 0x41 byte 0x46 then byte + 0x20 else byte
 
--- "upper or lower case": both read alike.
+-- Hex digits of upper and lower case read alike.
 pub record CaseAlike : Type 0 where
   pub reads : (room : ℕ) (text : List ℕ) → hex room (map lowered text) ≡ hex room text
   pub bytes : (text : List ℕ) → hexOf (map lowered text) ≡ hexOf text
 
--- "leading zeros allowed"
+-- A zero in front of a number changes nothing.
 abbrev pub LeadingZero : Type 0
 LeadingZero = (limit byte : ℕ) (text : List ℕ) → numberOf limit (0x30 ∷ byte ∷ text) ≡ numberOf limit (byte ∷ text)
 
--- what a line says, where there is room for 1,024 bytes
+-- What a line says, where there is room for 1,024 bytes.
 abbrev pub says : List ℕ → Line
 says = lineOf 1024
 

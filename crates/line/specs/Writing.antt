@@ -1,4 +1,4 @@
--- What is written of each line of a script, and how it is laid on a page.
+-- What is written of each line of a script (docs/SCRIPT.md, Output), and how it is laid on a page.
 use Prim.Native.Nat.{ℕ, zero, suc, _+_, _-_, _/_, _%_}
 use Prim.Native.Char.{code}
 use Prim.Native.String.{String, [] as stop, _∷_ as _then_}
@@ -38,7 +38,7 @@ abbrev pub word : String → List ℕ
 word stop = []
 word (letter then letters) = code letter ∷ word letters
 
--- "decimal": the digits of a number's tenth, where it has one, and then its last; most is how many there may be.
+-- A number in decimal: the digits of its tenth, where it has one, and then its last; `most` is how many there may be.
 unfoldable pub digitsUpTo : ℕ → ℕ → List ℕ
 digitsUpTo zero n = []
 digitsUpTo (suc most) n =
@@ -49,10 +49,11 @@ digitsUpTo (suc most) n =
 unfoldable pub digits : ℕ → List ℕ
 digits n = digitsUpTo (suc n) n
 
--- "lower-case hex": 0 to 9, then a to f.
+-- A hex digit: 0 to 9, then a to f.
 unfoldable pub hexDigit : ℕ → ℕ
 hexDigit n = if ltb n 10 then code "0" + n else code "a" + (n - 10)
 
+-- Bytes in lower-case hex, two digits each.
 unfoldable pub hexOf : List ℕ → List ℕ
 hexOf [] = []
 hexOf (byte ∷ bytes) = hexDigit (byte / 16) ∷ hexDigit (byte % 16) ∷ hexOf bytes
@@ -61,58 +62,59 @@ hexOf (byte ∷ bytes) = hexDigit (byte / 16) ∷ hexDigit (byte % 16) ∷ hexOf
 unfoldable pub spaced : List ℕ → List ℕ
 spaced text = word " " ++ text
 
--- "colour `black` `red` `green` `orange`"
+-- The word for a colour.
 abbrev pub colourWord : Colour → List ℕ
 colourWord Black = word "black"
 colourWord Red = word "red"
 colourWord Green = word "green"
 colourWord Orange = word "orange"
 
--- "mode `normal` `setup` `factory`"
+-- The word for a mode.
 abbrev pub modeWord : Mode → List ℕ
 modeWord Normal = word "normal"
 modeWord Setup = word "setup"
 modeWord Factory = word "factory"
 
--- "` LEVEL OUTPUT COLOUR MODE`", "level and output in steps, decimal"
+-- LEVEL OUTPUT COLOUR MODE: what is shown of the switch, levels in steps.
 unfoldable pub state : Answer → List ℕ
 state a =
     spaced (digits (a .level .0))
     ++ (spaced (digits (a .output .0)) ++ (spaced (colourWord (a .colour)) ++ spaced (modeWord (a .mode))))
 
--- "Packet 0 lies at byte 0 of the buffer, packet 1 at byte 24."
+-- The packet in the first place of the buffer.
 abbrev pub packet0 : Sent → List ℕ → List ℕ
 packet0 sent out = take (sent .first) out
 
+-- The packet in the second place, which begins at byte 24.
 abbrev pub packet1 : Sent → List ℕ → List ℕ
 packet1 sent out = take (sent .second) (drop 24 out)
 
--- "SENT the sent packets in lower-case hex joined by `,`, or `-` where none was sent"
+-- SENT: the packets in hex with a comma between them, or a dash.
 unfoldable pub packets : Sent → List ℕ → List ℕ
 packets sent out =
     if eqb (sent .count) 0 then word "-"
     else if eqb (sent .count) 1 then hexOf (packet0 sent out)
     else hexOf (packet0 sent out) ++ (word "," ++ hexOf (packet1 sent out))
 
--- "a byte of the buffer outside the sent packets": what stands behind each in its place; one that was not sent has no bytes
+-- The bytes of the buffer outside the packets: what stands behind each in its place; one that was not sent has no bytes.
 abbrev pub outside : Sent → List ℕ → List ℕ
 outside sent out = drop (sent .first) (take 24 out) ++ drop (sent .second) (drop 24 out)
 
--- "The buffer is filled with 0xAA before every event."
+-- All bytes are 0xAA still, as before the event.
 unfoldable pub untouched : List ℕ → Bool
 untouched [] = true
 untouched (byte ∷ bytes) = eqb byte 0xAA && untouched bytes
 
--- "a last word ` spilt` where a byte of the buffer outside the sent packets is no longer 0xAA"
+-- A last word, where a byte outside the packets is another.
 unfoldable pub spilt : Sent → List ℕ → List ℕ
 spilt sent out = if untouched (outside sent out) then [] else word " spilt"
 
--- "NUMBER COUNT LEN0 LEN1"
+-- NUMBER COUNT LEN0 LEN1: the number of the answer, how many packets, and their lengths.
 unfoldable pub counts : ℕ → Sent → List ℕ
 counts number sent =
     digits number ++ (spaced (digits (sent .count)) ++ (spaced (digits (sent .first)) ++ spaced (digits (sent .second))))
 
--- "NUMBER COUNT LEN0 LEN1 LEVEL OUTPUT COLOUR MODE SENT"
+-- What is written of an event behind its letter, from NUMBER to SENT.
 unfoldable pub row : Answer → List ℕ → List ℕ
 row a out =
     counts (a .number) (a .sent) ++ (state a ++ (spaced (packets (a .sent) out) ++ spilt (a .sent) out))
@@ -121,26 +123,26 @@ row a out =
 unfoldable pub line : ℕ → List ℕ → List ℕ
 line letter text = (letter ∷ word " ") ++ (text ++ word "\n")
 
--- "`i NUMBER` and, when NUMBER is 0, ` LEVEL OUTPUT COLOUR MODE` behind it"
+-- `i`: the number, and behind a 0 the state.
 unfoldable pub started : Answer → List ℕ
 started a = line (code "i") (if eqb (a .number) 0 then digits (a .number) ++ state a else digits (a .number))
 
--- "For p, r, k, x: `E NUMBER COUNT LEN0 LEN1 LEVEL OUTPUT COLOUR MODE SENT`, E the letter"
+-- `p`, `r`, `k`, `x`: the letter and the row.
 abbrev pub answered : ℕ → Answer → List ℕ → List ℕ
 answered letter a out = line letter (row a out)
 
--- "`t*K LINE`, K the run's length, LINE from NUMBER on"
+-- `t`: how many ticks had this row, and the row.
 unfoldable pub run : ℕ → List ℕ → List ℕ
 run ticks text = word "t*" ++ (digits ticks ++ (spaced text ++ word "\n"))
 
--- "`d HEX`: the 256 registers in lower-case hex"
+-- `d`: the 256 registers in hex.
 abbrev pub dump : List ℕ → List ℕ
 dump image = line (code "d") (hexOf image)
 
--- "An event, or d, with no switch prints `E none`"
+-- An event or `d` where there is no switch.
 abbrev pub none : ℕ → List ℕ
 none letter = line letter (word "none")
 
--- "`? LINE` with the line's number"
+-- A line that does not read, by its number in the script.
 abbrev pub unread : ℕ → List ℕ
 unread number = line (code "?") (digits number)
