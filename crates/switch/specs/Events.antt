@@ -56,15 +56,15 @@ finished m paddles =
     let p = plain (m .registers) (signalledBy (m .sent) (m .core)) paddles in
     done (outcome (shown 0 (m .sent) p) p) (m .change)
 
--- An event begins: nothing is sent, nothing changed.
+-- An event begins, with this core: nothing is sent yet, no register and no password byte changed.
 abbrev pub begun : Plain → Core → Moment
 begun p c = moment (p .registers) c [] nothing
 
--- 01, Events and time, 2: the paddle of a contact.
+-- 01, Events and time, 2: contacts 0 and 2 are the top paddle's, 1 and 3 the bottom's.
 unfoldable pub paddleOf : ℕ → ℕ
 paddleOf contact = contact % 2
 
--- 01, Events and time, 2: a contact is local or slave.
+-- 01, Events and time, 2: contacts 0 and 1 are local, 2 and 3 slave.
 unfoldable pub kindOf : ℕ → Contact
 kindOf contact = if ltb contact 2 then Local else Slave
 
