@@ -342,10 +342,10 @@ module _ (s : Switch Plain) where
 
 -- All 256 registers after any event.
 equation : OneEquation
-equation s e place sane h =
+equation s e place long h =
     let says = event-says s e in
     ap₂ (λ (all : List ℕ) (w : Password). getD (imageOf all w) place 0) (says .0) (says .1)
-    ∙ written-at (writesOf s e) (s .plain .registers) (s .password) place (sane .registers) h
+    ∙ written-at (writesOf s e) (s .plain .registers) (s .password) place long h
 
 -- What each write keeps, all of them keep.
 keeps : (P : ℕ → Type 0) (place : ℕ) (ws : List Writing) (old : ℕ) → EachWrite (λ w. (n : ℕ) → P n → P (byteAfter (w .write) (w .values) place n)) ws → P old → P (bytesAfter ws place old)
@@ -363,8 +363,8 @@ unfolding byteAfter
 missed place w miss n = rw miss
 
 others : OthersStay
-others s e place sane h misses =
-    equation s e place sane h
+others s e place long h misses =
+    equation s e place long h
     ∙ keeps (λ n. n ≡ byteAt s place) place (writesOf s e) (byteAt s place)
     (each-write (writesOf s e) (λ w miss n same. missed place w miss n ∙ same) misses) refl
 
@@ -456,7 +456,7 @@ module _ (s : Switch Plain) where
 
 causes : OnlyCauses
 unfolding writesOf
-causes s e sane = both (EachWrite (Cause s (e .deed))) (ltb (e .room) 48) tt (deed-causes s _ (e .deed))
+causes s e = both (EachWrite (Cause s (e .deed))) (ltb (e .room) 48) tt (deed-causes s _ (e .deed))
 
 -- ---- the places that few can alter
 
@@ -501,9 +501,9 @@ pub by-three-ways : (s : Switch Plain) (e : Event) (place : ℕ) (P : ℕ → Ty
     → ((n : ℕ) → StoredAt s (e .deed) place n → P n) → ((n : ℕ) → SetAt s (e .deed) place n → P n) → ((n : ℕ) → FactorySet s (e .deed) place n → P n)
     → P (byteAt s place) → P (byteAt (respond s e .next) place)
 by-three-ways s e place P apart sane h byStore bySet byFactory before =
-    subst P (sym (equation s e place sane h))
+    subst P (sym (equation s e place (sane .registers) h))
     (keeps P place (writesOf s e) (byteAt s place)
-    (each-write (writesOf s e) (by-cause s place P apart (e .deed) byStore bySet byFactory) (causes s e sane)) before)
+    (each-write (writesOf s e) (by-cause s place P apart (e .deed) byStore bySet byFactory) (causes s e)) before)
 
 pub counter-place : (counter : Counter) (place : ℕ) → place < 0xF9 → eqb place (counterPlace counter) ≡ false
 unfolding counterPlace

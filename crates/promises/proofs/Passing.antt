@@ -178,8 +178,8 @@ tick-byte mode ps save level place old = at-counter (eqb place (counterPlace Set
 
 pub every-tick : EveryTick
 unfolding writesOf byDeed tickedByte
-every-tick s room place enough sane h =
-    alters .equation s (event room tick) place sane h ∙ rw (le-ltb room 48 enough)
+every-tick s room place enough long h =
+    alters .equation s (event room tick) place long h ∙ rw (le-ltb room 48 enough)
     (tick-byte (s .plain .core .mode) (s .plain .paddles) (s .plain .core .save) (respond s (event room tick) .next .plain .core .dimmer .level) place (byteAt s place))
 
 -- ---- which gestures do it

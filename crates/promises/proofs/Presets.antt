@@ -78,7 +78,7 @@ stays-outside s e out no-entry = go (inSetup (respond s e .next .plain .core .mo
 no-room : (s : Switch Plain) (e : Event) (place : ℕ) → Sane (s .plain) → place < size → e .room < 48 → byteAt (respond s e .next) place ≡ byteAt s place
 unfolding writesOf
 no-room s e place sane h short =
-    alters .others s e place sane h (cases (EachWrite (Misses place)) (ltb (e .room) 48) (λ _. tt) (λ f. let enough = ltb-false (e .room) 48 f in absurd (omega arith)))
+    alters .others s e place (sane .registers) h (cases (EachWrite (Misses place)) (ltb (e .room) 48) (λ _. tt) (λ f. let enough = ltb-false (e .room) 48 f in absurd (omega arith)))
 
 -- And alters a preset by Store Preset alone.
 only-stored : (s : Switch Plain) (e : Event) → Sane (s .plain) → Outside s → (Enters s e → ⊥) → OnlyStored s e

@@ -106,7 +106,7 @@ byteAt s place = getD (imageIn s) place 0
 
 -- All 256 registers after any event, in any mode, as one equation.
 abbrev pub OneEquation : Type 0
-OneEquation = (s : Switch Plain) (e : Event) (place : ℕ) → Sane (s .plain) → place < size → byteAt (respond s e .next) place ≡ bytesAfter (writesOf s e) place (byteAt s place)
+OneEquation = (s : Switch Plain) (e : Event) (place : ℕ) → length (s .plain .registers) ≡ size → place < size → byteAt (respond s e .next) place ≡ bytesAfter (writesOf s e) place (byteAt s place)
 
 -- Something holds of every write of a list.
 abbrev pub EachWrite : (Writing → Type 0) → List Writing → Type 0
@@ -119,7 +119,7 @@ Misses place w = sets (w .write) (length (w .values)) place ≡ false
 
 -- A place that no write of the event sets keeps its byte.
 abbrev pub OthersStay : Type 0
-OthersStay = (s : Switch Plain) (e : Event) (place : ℕ) → Sane (s .plain) → place < size → EachWrite (Misses place) (writesOf s e) → byteAt (respond s e .next) place ≡ byteAt s place
+OthersStay = (s : Switch Plain) (e : Event) (place : ℕ) → length (s .plain .registers) ≡ size → place < size → EachWrite (Misses place) (writesOf s e) → byteAt (respond s e .next) place ≡ byteAt s place
 
 -- The table: each write, and what can cause it.
 pub data Cause (s : Switch Plain) : Deed → Writing → Type 0 where
@@ -134,7 +134,7 @@ pub data Cause (s : Switch Plain) : Deed → Writing → Type 0 where
 
 -- Every write of every event is in the table.
 abbrev pub OnlyCauses : Type 0
-OnlyCauses = (s : Switch Plain) (e : Event) → Sane (s .plain) → EachWrite (Cause s (e .deed)) (writesOf s e)
+OnlyCauses = (s : Switch Plain) (e : Event) → EachWrite (Cause s (e .deed)) (writesOf s e)
 
 -- Of the causes three can reach a preset, and two of the three the password. The first is a link Store Preset: the percent, into the
 -- level byte of its own matching component (`accepted` says by link, and which component).

@@ -74,10 +74,10 @@ tickedByte s level place old =
     else if reset (s .plain .core .mode) (s .plain .paddles) then byteAfter write.Factory [] place old
     else old
 
--- All 256 registers after any tick, in any mode.
+-- All 256 registers after any tick, in any mode, with any number of paddles.
 abbrev pub EveryTick : Type 0
 EveryTick =
-    (s : Switch Plain) (room place : ℕ) → 48 ≤ room → Sane (s .plain) → place < size
+    (s : Switch Plain) (room place : ℕ) → 48 ≤ room → length (s .plain .registers) ≡ size → place < size
     → byteAt (respond s (event room tick) .next) place ≡ tickedByte s (respond s (event room tick) .next .plain .core .dimmer .level) place (byteAt s place)
 
 -- The next tick sets the factory values: a paddle closes ten taps in it and finds Setup. Setup may be the mode before the tick, or made within

@@ -137,8 +137,8 @@ plainAfter e values hue p = plain (applied (e .write) values (p .registers)) (si
 -- A packet that is answered 0: the state after it, and the reply (01, Commands, 8) with registers and percent as they then are.
 unfoldable pub outcomeOf : Effect → List ℕ → ℕ → Reply → Plain → Seen → Outcome Plain Shown
 outcomeOf e values source r p s =
-    let nextPaddle = plainAfter e values (hueOf r) p in
-    outcome (shown 0 (replied (nextPaddle .registers) s source r (percentOf (nextPaddle .core .dimmer .level))) nextPaddle) nextPaddle
+    let next = plainAfter e values (hueOf r) p in
+    outcome (shown 0 (replied (next .registers) s source r (percentOf (next .core .dimmer .level))) next) next
 
 -- 01, Commands, 3 (0x03) and 01, Answer numbers, row 14: the right guess opens Setup, a wrong one is refused.
 unfoldable pub jobOfGuess : Password → Plain → SwitchJob
@@ -178,8 +178,8 @@ jobOfOrder (order.Store i) source values p = jobOfAct (order.Store i) source val
 -- 01, Answer numbers, 2 and 01, Lamp, start, factory values, 1 (diagnostic): 4 to 8 begin the black signal and change nothing else.
 unfoldable pub garbled : ℕ → Plain → Outcome Plain Shown
 garbled number p =
-    let nextPaddle = plain (p .registers) (signalled Black (p .core)) (p .paddles) in
-    outcome (shown number [] nextPaddle) nextPaddle
+    let next = plain (p .registers) (signalled Black (p .core)) (p .paddles) in
+    outcome (shown number [] next) next
 
 -- A packet that the reader refuses: the number is the reader's.
 abbrev unread : Frame → Plain → SwitchJob
