@@ -101,7 +101,7 @@ not-read Reserved k z = omega arith
 pub sound : (p : List ℕ) (h : Header) → readOf p ≡ Read h → Sound p h
 sound p h = exactly .answer (Read h) p .0
 
--- The message of a packet that is read stands from byte 5 up to the checksum.
+-- The message of a packet that is read stands between the five bytes of the header and the checksum.
 pub message-is : (p : List ℕ) (h : Header) → readOf p ≡ Read h → messageOf p ≡ take (length p - 6) (drop 5 p)
 unfolding messageOf
 message-is p h e = rw e
@@ -135,7 +135,7 @@ ranges h size e =
       most = leb-true _ _ (l .1);
     }
 
--- Fields in range and a message of 1 to 18 bytes pass the writer's first check.
+-- The writer's ranges, taken together again.
 pub in-range : (h : Header) (size : ℕ) → Ranges h size → fieldsInRange h size ≡ true
 unfolding fieldsInRange
 in-range h size r = search tests
@@ -196,7 +196,7 @@ written-length h m before after n w =
     let r = g .0 in
     (r, (g .1 .1, (omega arith, (omega arith, omega arith))))
 
--- A header in range, a message of 1 to 18 bytes and room for them: the writer answers the length and lays the packet.
+-- A header and a message in range, and room for them: the writer answers the length and lays the packet.
 pub written-whole : (h : Header) (m before after : List ℕ) (w : Written) → Ranges h (length m) → length m + 6 ≤ length before
     → Wrote h m before w after → (w ≡ written.Packet (length m + 6)) × (after ≡ packed h m ++ drop (length m + 6) before)
 unfolding laid

@@ -7,36 +7,43 @@ use lib.ListN.{length}
 use Rattle.words.specs.Words.{if_then_else_}
 use Rattle.packet.specs.declared.Header.{Header}
 
--- "Byte 0: bit 7 link, bits 6-5 repeat request, bits 4-0 whole length."
+-- 01, Packet layout (H), 1: byte 0 is the link bit, two bits that request repeats, and five for the length of the whole packet.
 unfoldable pub firstByte : Bool → ℕ → ℕ → ℕ
 firstByte link repeat whole = (if link then 1 else 0) * 128 + (repeat * 32 + whole)
 
+-- Byte 0, bit 7: whether the packet goes by link.
 abbrev pub linkBit : ℕ → Bool
 linkBit first = eqb (first / 128 % 2) 1
 
+-- Byte 0, bits 6-5.
 abbrev pub repeatIn : ℕ → ℕ
 repeatIn first = first / 32 % 4
 
+-- Byte 0, bits 4-0.
 unfoldable pub wholeIn : ℕ → ℕ
 wholeIn first = first % 32
 
--- "Byte 1: bit 7 reserved, bits 6-4 acknowledge requests, 3-2 transmit count, 1-0 sequence." A packet is written with the reserved bit 0.
+-- 01, Packet layout (H), 2: byte 1 is a reserved bit, always written 0, three bits that request acknowledgement, two of transmit count and two of sequence.
 unfoldable pub secondByte : ℕ → ℕ → ℕ → ℕ
 secondByte request count sequence = request * 16 + (count * 4 + sequence)
 
+-- Byte 1, bit 7.
 unfoldable pub reservedIn : ℕ → ℕ
 reservedIn second = second / 128 % 2
 
+-- Byte 1, bits 6-4.
 abbrev pub requestIn : ℕ → ℕ
 requestIn second = second / 16 % 8
 
+-- Byte 1, bits 3-2.
 abbrev pub countIn : ℕ → ℕ
 countIn second = second / 4 % 4
 
+-- Byte 1, bits 1-0.
 abbrev pub sequenceIn : ℕ → ℕ
 sequenceIn second = second % 4
 
--- "Then network, destination, source"
+-- 01, Packet layout (H), 1 to 3: the header in the first five bytes: two with several fields each, three that are a field each.
 unfoldable pub headerIn : ℕ → ℕ → ℕ → ℕ → ℕ → Header
 headerIn first second network destination source =
     record {
@@ -50,16 +57,16 @@ headerIn first second network destination source =
       source = source;
     }
 
--- "sum of all bytes"
+-- The sum that 01, Answer numbers, row 7 is about, before it is taken modulo 256.
 unfoldable pub total : List ℕ → ℕ
 total [] = 0
 total (byte ∷ bytes) = byte + total bytes
 
--- what makes a sum 0 modulo 256
+-- The byte that brings a sum below 256 to 0 modulo 256: the checksum.
 unfoldable pub balance : ℕ → ℕ
 balance sum = (256 - sum) % 256
 
--- the five bytes before a message of size bytes
+-- The five bytes before a message of `size` bytes, and the rest behind them; the packet is six bytes longer than its message.
 unfoldable pub headBytes : Header → ℕ → List ℕ → List ℕ
 headBytes h size rest =
     firstByte (h .link) (h .repeat) (size + 6)
@@ -69,7 +76,7 @@ headBytes h size rest =
     ∷ h .source
     ∷ rest
 
--- "Then network, destination, source, message of 1 to 18 bytes, checksum."
+-- 01, Packet layout (H), 3: the whole packet is those five bytes, the message, and the checksum over both.
 unfoldable pub packed : Header → List ℕ → List ℕ
 packed h message =
     headBytes h (length message) message ++ balance (total (headBytes h (length message) message) % 256) ∷ []

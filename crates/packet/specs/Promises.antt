@@ -16,19 +16,19 @@ use Rattle.packet.specs.Layout.{wholeIn, reservedIn, headerIn, total, pa
 use Rattle.packet.specs.Reading.{readOf, numberOfFrame, messageOf}
 use Rattle.packet.specs.Writing.{writtenOf, numberOfWritten, Wrote}
 
--- passes 4 and 5
+-- The packet passes 4 and 5.
 abbrev pub Sized : List ℕ → Type 0
 Sized p = (7 ≤ length p) × (length p ≤ 24)
 
--- passes 4 to 6
+-- It passes 4 to 6.
 abbrev pub Counted : List ℕ → Type 0
 Counted p = Sized p × (wholeIn (getD p 0 0) ≡ length p)
 
--- passes 4 to 7
+-- It passes 4 to 7.
 abbrev pub Summed : List ℕ → Type 0
 Summed p = Counted p × (total p % 256 ≡ 0)
 
--- A packet that passes 4 to 8, and the header that it has.
+-- It passes 4 to 8, and this is its header.
 pub record Sound (p : List ℕ) (h : Header) : Type 0 where
   pub least : 7 ≤ length p
   pub most : length p ≤ 24
@@ -37,7 +37,7 @@ pub record Sound (p : List ℕ) (h : Header) : Type 0 where
   pub reserved : reservedIn (getD p 1 0) ≡ 0
   pub header : h ≡ headerIn (getD p 0 0) (getD p 1 0) (getD p 2 0) (getD p 3 0) (getD p 4 0)
 
--- the reader's rows of the table: the row's condition, and none of an earlier row
+-- 01, Answer numbers, rows 4 to 8 and 0, for the reader: the row's own condition, and no earlier row's.
 abbrev pub Reads : Frame → List ℕ → Type 0
 Reads Short p = length p < 7
 Reads Long p = 24 < length p
@@ -46,7 +46,7 @@ Reads Sum p = Counted p × (total p % 256 ≡ 0 → ⊥)
 Reads Reserved p = Summed p × (reservedIn (getD p 1 0) ≡ 0 → ⊥)
 Reads (Read h) p = Sound p h
 
--- the same rows by their numbers
+-- The same rows by their numbers.
 pub data ReadRow (p : List ℕ) : ℕ → Type 0 where
   done : (h : Header) → Reads (Read h) p → ReadRow p 0
   too-short : Reads Short p → ReadRow p 4
@@ -55,12 +55,12 @@ pub data ReadRow (p : List ℕ) : ℕ → Type 0 where
   wrong-sum : Reads Sum p → ReadRow p 7
   reserved-bit : Reads Reserved p → ReadRow p 8
 
--- "Given exactly when", for the reader: its answer, and the number of that.
+-- 01, Answer numbers, heading of the table: for the reader, each answer and each number if and only if its row holds.
 pub record ReadExactly : Type 0 where
   pub answer : (f : Frame) (p : List ℕ) → (readOf p ≡ f) ↔ Reads f p
   pub number : (p : List ℕ) (n : ℕ) → (numberOfFrame (readOf p) ≡ n) ↔ ReadRow p n
 
--- A header whose fields are in range, and a message of 1 to 18 bytes.
+-- What row 15 is the opposite of, part by part: each field fits its bits, and the message has 1 to 18 bytes.
 pub record Ranges (h : Header) (size : ℕ) : Type 0 where
   pub repeat : h .repeat ≤ 3
   pub request : h .request ≤ 7
@@ -69,19 +69,19 @@ pub record Ranges (h : Header) (size : ℕ) : Type 0 where
   pub least : 1 ≤ size
   pub most : size ≤ 18
 
--- the writer's rows, for a message of size bytes and a buffer of room bytes: 15, then 2
+-- 01, Answer numbers, rows 15, 2 and 0, for the writer with a message of `size` bytes and a buffer of `room` bytes.
 abbrev pub GivenWritten : Written → Header → ℕ → ℕ → Type 0
 GivenWritten written.Field h size room = Ranges h size → ⊥
 GivenWritten written.Short h size room = Ranges h size × (room < size + 6)
 GivenWritten (written.Packet n) h size room = Ranges h size × ((size + 6 ≤ room) × (n ≡ size + 6))
 
--- the same rows by their numbers
+-- The same rows by their numbers.
 pub data WrittenRow (h : Header) (size room : ℕ) : ℕ → Type 0 where
   whole : GivenWritten (written.Packet (size + 6)) h size room → WrittenRow h size room 0
   out-of-range : GivenWritten written.Field h size room → WrittenRow h size room 15
   no-room : GivenWritten written.Short h size room → WrittenRow h size room 2
 
--- "Given exactly when", for the writer: its answer with the packet's length, and the number of that.
+-- 01, Answer numbers, heading of the table: for the writer, each answer, the length with it, and each number if and only if its row holds.
 pub record WrittenExactly : Type 0 where
   pub answer : (w : Written) (h : Header) (size room : ℕ) → (writtenOf h size room ≡ w) ↔ GivenWritten w h size room
   pub number : (h : Header) (size room n : ℕ) → (numberOfWritten (writtenOf h size room) ≡ n) ↔ WrittenRow h size room n
@@ -102,20 +102,20 @@ ReadsBack =
 abbrev pub WritesBack : Type 0
 WritesBack = (p : List ℕ) (h : Header) → Bytes p → readOf p ≡ Read h → packed h (messageOf p) ≡ p
 
--- The same of the caller's buffer: its front reads as what was written, and the bytes behind it are kept.
+-- Reading back, of the caller's buffer: its front reads as what was written, and the bytes behind it are kept.
 abbrev pub ReadsBackLent : Type 0
 ReadsBackLent =
     (h : Header) (message before after : List ℕ) (n : ℕ) → Wrote h message before (written.Packet n) after
     → (readOf (take n after) ≡ Read h) × ((messageOf (take n after) ≡ message) × (drop n after ≡ drop n before))
 
--- A packet that was read, written into a buffer with room for it, stands at its front again.
+-- Writing back, of the caller's buffer: a packet that was read, written where there is room for it, stands at the front again, and the bytes behind it are kept.
 abbrev pub WritesBackLent : Type 0
 WritesBackLent =
     (p : List ℕ) (h : Header) (before after : List ℕ) (answer : Written)
     → Bytes p → readOf p ≡ Read h → length p ≤ length before → Wrote h (messageOf p) before answer after
     → (answer ≡ written.Packet (length p)) × ((take (length p) after ≡ p) × (drop (length p) after ≡ drop (length p) before))
 
--- a direct packet's header with repeat, request, count and sequence bits 0
+-- A direct packet's header with 0 in every field of fewer than eight bits.
 abbrev pub directHeader : ℕ → ℕ → ℕ → Header
 directHeader network destination source =
     record {
@@ -129,7 +129,7 @@ directHeader network destination source =
       source = source;
     }
 
--- "(a) 07 00 01 05 09 30 BA is answered by 08 00 01 09 05 86 28 3B." "(e) last byte of (a) BB: 7."
+-- 01, Numbers to test by, 2 (a) and 5 (e): the request of (a) is read, its reply is written, and the request with a wrong last byte is 7.
 pub record WorkedPackets : Type 0 where
   pub asked : readOf (0x07 ∷ 0x00 ∷ 0x01 ∷ 0x05 ∷ 0x09 ∷ 0x30 ∷ 0xBA ∷ []) ≡ Read (directHeader 1 5 9)
   pub message : messageOf (0x07 ∷ 0x00 ∷ 0x01 ∷ 0x05 ∷ 0x09 ∷ 0x30 ∷ 0xBA ∷ []) ≡ 0x30 ∷ []

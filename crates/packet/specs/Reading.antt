@@ -9,8 +9,8 @@ use Rattle.packet.specs.declared.Frame.{Frame}
 use Rattle.packet.specs.declared.Frame.the-variants.{Read, Short, Long, Length, Sum, Reserved}
 use Rattle.packet.specs.Layout.{wholeIn, reservedIn, headerIn, total}
 
--- "packet under 7, over 24 bytes", "length field differs from the byte count", "sum of all bytes is not 0 modulo 256",
--- "reserved header bit set": checked in this order.
+-- 01, Answer numbers, rows 4 to 8, tried in this order (Answer numbers, 1): too short, too long, another length than it says,
+-- bytes that do not add up to 0, the spare bit set. Else 01, Packet layout (H), 4: the header.
 unfoldable pub readOf : List ℕ → Frame
 readOf p =
     if ltb (length p) 7 then Short
@@ -20,7 +20,7 @@ readOf p =
     else if not (eqb (reservedIn (getD p 1 0)) 0) then Reserved
     else Read (headerIn (getD p 0 0) (getD p 1 0) (getD p 2 0) (getD p 3 0) (getD p 4 0))
 
--- the number of each answer
+-- 01, Answer numbers: the number of each of the reader's answers.
 abbrev pub numberOfFrame : Frame → ℕ
 numberOfFrame (Read h) = 0
 numberOfFrame Short = 4
@@ -29,6 +29,6 @@ numberOfFrame Length = 6
 numberOfFrame Sum = 7
 numberOfFrame Reserved = 8
 
--- "hands back the message as that stretch of the caller's own packet, and a stretch of length 0 where the reader refuses"
+-- 01, Packet layout (H), 4: the message lies between the five bytes of the header and the checksum; where the reader refuses it is empty.
 unfoldable pub messageOf : List ℕ → List ℕ
 messageOf p = if eqb (numberOfFrame (readOf p)) 0 then take (length p - 6) (drop 5 p) else []

@@ -11,26 +11,26 @@ use Rattle.packet.specs.declared.Written.{Written}
 use Rattle.packet.specs.declared.Written.the-variants.{Packet, Field, Short}
 use Rattle.packet.specs.Layout.{packed}
 
--- "a field out of range, or message not 1 to 18 bytes" is where this is false
+-- 01, Answer numbers, row 15 is where this is false. A field of the first two bytes has to fit its bits; `size` is the length of the message.
 unfoldable pub fieldsInRange : Header → ℕ → Bool
 fieldsInRange h size =
     leb (h .repeat) 3
     && (leb (h .request) 7 && (leb (h .count) 3 && (leb (h .sequence) 3 && (leb 1 size && leb size 18))))
 
--- "the writer takes 15, then 2", for a message of size bytes and a buffer of room bytes
+-- 01, Answer numbers, 1: the writer's order is 15, 2. For a message of `size` bytes and a buffer of `room` bytes.
 unfoldable pub writtenOf : Header → ℕ → ℕ → Written
 writtenOf h size room =
     if not (fieldsInRange h size) then Field
     else if ltb room (size + 6) then Short
     else Packet (size + 6)
 
--- the number of each answer
+-- 01, Answer numbers: the number of each of the writer's answers.
 abbrev pub numberOfWritten : Written → ℕ
 numberOfWritten (Packet n) = 0
 numberOfWritten Field = 15
 numberOfWritten Short = 2
 
--- the buffer after each answer: the packet at its front, or every byte as it was
+-- The buffer after each answer: the packet at its front, the bytes behind it kept; or, refused, every byte as it was (01, Answer numbers, 2).
 unfoldable pub laid : Written → Header → List ℕ → List ℕ → List ℕ
 laid (Packet n) h message before = packed h message ++ drop n before
 laid Field h message before = before

@@ -28,6 +28,7 @@ const THREE_BITS: u8 = 7;
 
 const FIVE_BITS: u8 = 31;
 
+// The header's fields, but for the whole length, which follows from the message, and the reserved bit, which is 0.
 pub struct Header {
     pub link: bool,
     pub repeat: u8,
@@ -39,7 +40,7 @@ pub struct Header {
     pub source: u8,
 }
 
-// What the reader answers: the header's fields, or a refusal 4 to 8.
+// The reader's answer: the header, or one of the numbers 4 to 8.
 pub enum Frame {
     Read(Header),
     Short,
@@ -64,13 +65,14 @@ impl Frame {
     }
 }
 
-// What the writer answers: the packet's whole length, or a refusal 15 or 2.
+// The writer's answer: how long the packet is, or one of the numbers 15 and 2.
 pub enum Written {
     Packet(u8),
     Field,
     Short,
 }
 
+// Checks the packet and takes its header out.
 pub fn read(packet: &[u8]) -> Frame
     ensures { λ r. ⌜ r ≡ readOf (now (packet .entry)) ⌝ }
 {
@@ -102,6 +104,7 @@ pub fn read(packet: &[u8]) -> Frame
     Frame::Read(header)
 }
 
+// The message, lent out of the caller's packet; empty where the reader refuses.
 pub fn message(packet: &[u8]) -> &[u8]
     ensures { λ r. ⌜ now r ≡ messageOf (now (packet .entry)) ⌝ }
 {
@@ -113,6 +116,7 @@ pub fn message(packet: &[u8]) -> &[u8]
     &packet[HEAD..checksum]
 }
 
+// Lays header, message and checksum at the front of the buffer, or leaves it alone.
 pub fn write(header: Header, message: &[u8], out: &mut [u8]) -> Written
     ensures { λ r. ⌜ Wrote header (now (message .entry)) (now (out .entry)) r (now (out .exit)) ⌝ }
 {
@@ -231,7 +235,7 @@ fn sum(bytes: &[u8]) -> u8
     sum as u8
 }
 
-// What makes a sum 0 modulo 256.
+// The checksum for a sum.
 fn balance(sum: u8) -> u8
     ensures { λ r. ⌜ r ≡ balance sum ⌝ }
 {

@@ -19,44 +19,49 @@ pub less-more : (n left : ℕ) → less (lessBy n left) ≡ lessBy (suc n) left
 unfolding less lessBy
 less-more n left = omega arith
 
--- One more, divided: within a turn of m, and at its end.
+-- One more, divided, within a turn of m.
 within : (k m : ℕ) → k % m + 1 < m → (suc k % m ≡ k % m + 1) × (suc k / m ≡ k / m)
 within k m h =
     let e : suc k ≡ k / m * m + (k % m + 1) = omega (arith, div-add-mod' k m) in
     (rw e (digits-mod (k / m) h), rw e (digits-div (k / m) h))
 
+-- One more, divided, at the end of a turn of m.
 at-end : (k m : ℕ) → k % m + 1 ≡ m → (suc k % m ≡ 0) × (suc k / m ≡ k / m + 1)
 at-end k m h =
     let p : 0 < m = omega arith in
     let e : suc k ≡ (k / m + 1) * m + 0 = omega (arith, div-add-mod' k m) in
     (rw e (digits-mod (k / m + 1) p), rw e (digits-div (k / m + 1) p))
 
--- A metronome after no tick is as it was, and has not beaten.
+-- A metronome after no tick is as it was.
 pub turned-none : (period left : ℕ) → metronomeBy 0 period left ≡ left
 unfolding metronomeBy
 turned-none period left = rw (le-ltb left 0 (omega arith)) (omega arith)
 
+-- In no tick it does not beat.
 pub beats-none : (period left : ℕ) → beatsBy 0 period left ≡ 0
 unfolding beatsBy
 beats-none period left = rw (le-ltb left 0 (omega arith))
 
--- One tick more, where the metronome stands above 0, at 0, and later within a turn and at its end.
+-- What one tick more makes of a metronome, and of the number of its beats.
 OneMore : (n period left : ℕ) → Type 0
 OneMore n period left =
     (metronome period (metronomeBy n period left) ≡ metronomeBy (suc n) period left)
     × (beatsBy (suc n) period left ≡ (if beats (metronomeBy n period left) then beatsBy n period left + 1 else beatsBy n period left))
 
+-- Where the metronome stands above 0.
 above : (n period left : ℕ) → n < left → OneMore n period left
 unfolding OneMore less metronome metronomeBy beatsBy
 above n period left h =
     simp (le-ltb left n (omega arith), le-ltb left (suc n) (omega arith), ne-eqb (left - n) 0 (omega arith)) (omega arith, refl)
 
+-- Where it comes to 0 for the first time.
 at-zero : (n period left : ℕ) → n ≡ left → OneMore n period left
 unfolding OneMore less metronome metronomeBy beatsBy
 at-zero n period left h =
     let first : suc n - left - 1 ≡ 0 = omega arith in
     simp (le-ltb left n (omega arith), lt-ltb left (suc n) (omega arith), eq-eqb (left - n) 0 (omega arith), first, zero-mod, zero-div) (omega arith, refl)
 
+-- After that, within a turn and at its end.
 later : (n period left : ℕ) → left < n → OneMore n period left
 unfolding OneMore less metronome metronomeBy beatsBy
 later n period left h =

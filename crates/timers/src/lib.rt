@@ -1,5 +1,5 @@
-// The two kinds of counter that a switch has. Both count down and know no date: a timer stands still at 0, and a metronome
-// beats at the tick that finds it at 0 and starts over.
+// The two kinds of tick counter that a switch has. Both count down and know no date: a timer stands still at 0, and a
+// metronome beats at the tick that finds it at 0 and starts over.
 ghost use mathlib.Core.Path.{_≡_};
 ghost use Rattle.timers.specs.Timers.{less, metronome};
 

@@ -21,20 +21,22 @@ pub round-trip : (p : Percent) → p .0 ≤ 100 → percentOf (stepOf p) ≡ p
 unfolding stepOf percentOf
 round-trip p h = let e : percentOf (stepOf p) .0 ≡ p .0 = omega arith in λ i. record { 0 = e i }
 
--- A higher step is not reported as a lower percent, nor a higher percent set as a lower step.
+-- A higher step is not reported as a lower percent.
 pub percent-rises : (s t : Step) → s .0 ≤ t .0 → percentOf s .0 ≤ percentOf t .0
 unfolding percentOf
 percent-rises s t h = omega arith
 
+-- A higher percent is not set as a lower step.
 pub step-rises : (p q : Percent) → p .0 ≤ q .0 → stepOf p .0 ≤ stepOf q .0
 unfolding stepOf
 step-rises p q h = omega arith
 
--- Off is off on both scales.
+-- Off in steps is 0 percent.
 pub percent-zero : percentOf (step 0) ≡ percent 0
 unfolding percentOf
 percent-zero = refl
 
+-- 0 percent is off in steps.
 pub step-zero : stepOf (percent 0) ≡ step 0
 unfolding stepOf
 step-zero = refl

@@ -1,4 +1,4 @@
--- "Steps 0 to 200 and percents 0 to 100 are kept apart: percent p is step 2p, and step s is reported as percent s/2 rounded down."
+-- 01, Levels and fades, 1: the two scales of a level, steps and percents, and the way from each to the other.
 use Prim.Native.Nat.{ℕ, _*_, _/_, min}
 use Rattle.units.specs.declared.Step.{Step}
 use Rattle.units.specs.declared.Percent.{Percent}
@@ -6,6 +6,7 @@ use Rattle.units.specs.declared.Percent.{Percent}
 abbrev pub step : ℕ → Step
 step n = record { 0 = n }
 
+-- The top of the steps, and their bottom.
 abbrev pub full : Step
 full = step 200
 
@@ -15,9 +16,10 @@ off = step 0
 abbrev pub percent : ℕ → Percent
 percent n = record { 0 = n }
 
--- What lies above the range counts as its top.
+-- A percent is two steps; one above 100 counts as 100 (decision 40).
 unfoldable pub stepOf : Percent → Step
 stepOf p = step (2 * min 100 (p .0))
 
+-- Half the steps, half a percent dropped; a step above 200 counts as 200 (decision 40).
 unfoldable pub percentOf : Step → Percent
 percentOf s = percent (min 200 (s .0) / 2)

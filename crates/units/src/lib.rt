@@ -1,4 +1,4 @@
-// Steps and percents, kept apart: the two conversions are the only way between them.
+// A level on its two scales, steps and percents. They are two types, and a conversion leads from each to the other.
 ghost use mathlib.Core.Path.{_≡_};
 ghost use Rattle.units.specs.Units.{stepOf, percentOf};
 

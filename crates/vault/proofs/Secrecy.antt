@@ -1,4 +1,4 @@
--- The promises, shown for every careful product: demand 3 of the letter, its corollary, and the guest who talks to the switches all week.
+-- The promises, shown for every careful product: demand 3 of the letter, what the guesses tell, and the guest who chooses as he goes.
 use mathlib.Core.List.{List, [], _∷_}
 use mathlib.Core.Path.{_≡_, subst}
 use Prim.Native.Nat.{_+_, _≤_}
@@ -17,7 +17,7 @@ use Rattle.vault.specs.Code.{Careful, SecretAtOnce}
 
 -- ---- demand 3
 
--- Two sites alike in all but the password, outside Setup; an event is allowed if it puts neither into Setup.
+-- Two sites that differ in their passwords alone, outside Setup; an event is allowed if it puts neither into Setup.
 abbrev outside-veil : (S : Site) → SecretAtOnce S → Veil (S .machine)
 outside-veil S once = record {
   Alike = λ s t. S .Alike s t × S .Outside s;
@@ -40,7 +40,7 @@ secret S once s t es alike out outs outt =
 
 -- ---- with Setup open
 
--- Two switches alike in all but the password, in any mode; an event is allowed if its job goes the same way for both.
+-- Two switches that differ in the password alone, in any mode; an event is allowed if its job goes the same way for both.
 abbrev same-way-veil : (P : Product) → Veil (machine P)
 same-way-veil P = record {
   Alike = λ s t. s .plain ≡ t .plain;
@@ -62,7 +62,7 @@ secret-from-guesses {S} hidden s w es out stays untried =
     let ends = run-alike (untried-veil hidden w) s (S .given w s) es near allowed in
     (ends .0, hidden .alike w (run (S .machine) s es) (run (S .machine) (S .given w s) es) (ends .1), stays-out hidden w s (S .given w s) es near allowed)
 
--- The same of two switches alike in all but the password: nothing is asked of the run of the second.
+-- The same of two switches that differ in the password alone: nothing is asked of the run of the second.
 pub secret-between-two : (P : Product) → Careful P → SecretBetweenTwo P
 secret-between-two P careful s t es alike out stays untried =
     subst (λ p. (transcript (machine P) s es ≡ transcript (machine P) (switch p (t .password)) es)
@@ -77,7 +77,7 @@ left tried Fits fits = record {
   many = subst (λ n. n ≤ length (without tried passwords) + length (distinct tried)) (all-length 256 256) (left-and-tried tried passwords (all-once 256 256));
 }
 
--- A list of events rules out at most the passwords that were tried.
+-- A list of events leaves every password possible that was not tried.
 pub rules-out-guesses : {S : Site} → Hidden S → RulesOutGuesses S
 rules-out-guesses {S} hidden s es out stays =
     left (guesses S s es) (λ w. transcript (S .machine) s es ≡ transcript (S .machine) (S .given w s) es) (λ w untried. secret-from-guesses hidden s w es out stays untried .0)

@@ -13,7 +13,7 @@ use Rattle.vault.specs.declared.Password.{Password}
 use Rattle.vault.proofs.Laws.{chosen, respond-right}
 use Rattle.vault.specs.Code.{Unrevealed, Proper, Careful, SecretAtOnce}
 
--- Two answers alike in all but the password.
+-- Two answers that differ in the password alone.
 abbrev pub Same : {Plain Shown : Type 0} → Answered Plain Shown → Answered Plain Shown → Type 0
 Same a b = (a .shown ≡ b .shown) × (a .next .plain ≡ b .next .plain)
 
@@ -24,7 +24,7 @@ same-way v w (done o c) h = (refl, refl)
 same-way v w (compare guess right wrong) h = (ap (λ b. (cond b right wrong) .shown) h, ap (λ b. (cond b right wrong) .next) h)
 same-way v w (reveal show next) h = (h, refl)
 
--- The general one-step law, in Setup or out of it: two switches alike in all but the password, and a job that goes the same way for both.
+-- The general one-step law, in Setup or out of it: two switches that differ in the password alone, and a job that goes the same way for both.
 pub one-step : (P : Product) (s t : Switch (P .Plain)) (e : P .Event) → s .plain ≡ t .plain
     → SameWay (s .password) (t .password) (P .job (s .plain) e) → Same (responseOf P s e) (responseOf P t e)
 unfolding responseOf
@@ -64,7 +64,7 @@ secret-at-once P careful s t e alike out outs outt =
     one-step P s t e alike (outside-same-way P (s .plain) (s .password) (t .password) (P .job (s .plain) e) (careful (s .plain) e) out outs
     (subst (λ p. inSetup (P .mode (settled (t .password) (P .job p e) .next .plain)) ≡ false) (sym alike) outt))
 
--- Nor do several switches on one main.
+-- The same of several switches on one main.
 pub secret-at-once-in-flats : (S : Site) → SecretAtOnce S → SecretAtOnce (flats S)
 secret-at-once-in-flats S once s t e alike out outs outt =
     let k = e .which in

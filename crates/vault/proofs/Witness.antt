@@ -37,10 +37,11 @@ toy-careful Setup look = refl
 toy-careful Factory look = λ _. tt
 toy-careful m reset = λ _. tt
 
--- Its password is kept, and the right guess opens it.
+-- Its password is kept.
 toy-keeps : KeepsItsPassword toy
 toy-keeps = keeps-its-password toy toy-careful
 
+-- The right guess opens it.
 toy-opens : (w : Password) → inSetup (responseOf toy (switch Normal w) (try w) .next .plain) ≡ true
 unfolding asked
 toy-opens w = right-guess-opens toy toy-careful (switch Normal w) (try w) w (outcome 0 Setup) (outcome 14 Normal) refl (matches-itself w)

@@ -29,7 +29,7 @@ Proper P p (reveal show next) = inSetup (P .mode p) ≡ true
 abbrev pub Careful : Product → Type 0
 Careful P = (p : P .Plain) (e : P .Event) → Proper P p (P .job p e)
 
--- One event: two sites alike in all but the password, outside Setup before it and both outside after it, show the same and stay alike.
+-- One event: two sites that differ in their passwords alone, outside Setup before it and both outside after it, show the same and stay alike.
 abbrev pub SecretAtOnce : Site → Type 0
 SecretAtOnce S = (s t : S .machine .State) (e : S .machine .Event) → S .Alike s t → S .Outside s
     → S .Outside (S .machine .next s e) → S .Outside (S .machine .next t e)

@@ -1,4 +1,4 @@
--- What an event may ask of the password before it is known, and the one definition that sees both.
+-- An event's job: what it asks of the password, said before the password is known; and the one definition that sees both.
 use mathlib.Core.List.{List, [], _∷_}
 use mathlib.Core.Path.{_≡_}
 use Prim.Native.Nat.{ℕ}
@@ -32,11 +32,12 @@ became (put new) old = new
 unfoldable pub changed : Change → Password → Password
 changed c w = password (became (c .first) (w .0)) (became (c .second) (w .1))
 
--- One change of the password after another.
+-- Of one byte: two changes, the second after the first, as one.
 unfoldable pub over : Byte → Byte → Byte
 over before kept = before
 over before (put b) = put b
 
+-- Of both bytes: two changes of the password, one after the other, as one.
 unfoldable pub followed : Change → Change → Change
 followed before after = change (over (before .first) (after .first)) (over (before .second) (after .second))
 
@@ -48,7 +49,8 @@ pub record Outcome (Plain Shown : Type 0) : Type 0 where
 abbrev pub outcome : {Plain Shown : Type 0} → Shown → Plain → Outcome Plain Shown
 outcome shown next = record { shown = shown; next = next }
 
--- done: settled without the password, which is kept or put.
+-- What an event asks of the password, one of three kinds.
+-- done: nothing; the password is kept or put.
 -- compare: a guess, what happens where it is right, and what happens where it is wrong; the password is kept.
 -- reveal: what is shown of the password; the next state does not depend on it, and the password is kept.
 pub data Job (Plain Shown : Type 0) : Type 0 where
@@ -69,10 +71,11 @@ pub record Answered (Plain Shown : Type 0) : Type 0 where
   pub shown : Shown
   pub next : Switch Plain
 
+-- An outcome with the password put beside what the switch holds.
 abbrev pub answered : {Plain Shown : Type 0} → Outcome Plain Shown → Password → Answered Plain Shown
 answered o w = record { shown = o .shown; next = switch (o .next) w }
 
--- The one definition that sees a job and the password together.
+-- A job done with the password in hand: the one definition that sees both.
 unfoldable pub settled : {Plain Shown : Type 0} → Password → Job Plain Shown → Answered Plain Shown
 settled w (done o c) = answered o (changed c w)
 settled w (compare guess right wrong) = answered (if matches w guess then right else wrong) w

@@ -4,6 +4,7 @@ use Prim.Native.Nat.{ℕ, zero, suc}
 use lib.Dec.{eqb}
 use Rattle.words.specs.Words.{if_then_else_}
 
+-- Its states and events, what an event shows, and the state after it.
 pub record Machine : Type 1 where
   pub State : Type 0
   pub Event : Type 0
@@ -54,7 +55,7 @@ pub record To (Event : Type 0) : Type 0 where
   pub which : ℕ
   pub event : Event
 
--- Several of them side by side: each event is one machine's, and the others stay as they are.
+-- Machines side by side, each with a number: an event is for one of them, and the others stay as they are.
 abbrev pub several : Machine → Machine
 several M = record {
   State = ℕ → M .State;

@@ -1,4 +1,4 @@
--- A product: any switch that keeps its password apart, and what it must see to so that the password stays secret.
+-- A product is any switch that keeps its password apart. A site is one switch of it, or any number of them on one main.
 use mathlib.Core.Bool.{false}
 use mathlib.Core.List.{List}
 use mathlib.Core.Path.{_≡_}
@@ -9,7 +9,7 @@ use Rattle.vault.specs.Vault.{inSetup}
 use Rattle.vault.specs.declared.Mode.{Mode}
 use Rattle.vault.specs.declared.Password.{Password}
 
--- What an event asks for is said without the password.
+-- What a switch holds beside its password, its mode, and the job of each event, which is said without the password.
 pub record Product : Type 1 where
   pub Plain : Type 0
   pub Event : Type 0
@@ -17,7 +17,7 @@ pub record Product : Type 1 where
   pub mode : Plain → Mode
   pub job : Plain → Event → Job Plain Shown
 
--- The answer to an event, and the switch after it.
+-- What an event shows, and the whole switch after it.
 unfoldable pub responseOf : (P : Product) → Switch (P .Plain) → P .Event → Answered (P .Plain) (P .Shown)
 responseOf P s e = settled (s .password) (P .job (s .plain) e)
 
@@ -31,8 +31,8 @@ machine P = record {
   next = λ s e. responseOf P s e .next;
 }
 
--- One switch, or all those on one main: whether it is outside Setup, when two of them are alike in all but the password,
--- which guesses an event compares, and the same with another password given to it.
+-- A site: whether it is outside Setup, when two differ in their passwords alone, which guesses an event compares, and the same
+-- site with another password given to it.
 pub record Site : Type 1 where
   pub machine : Machine
   pub Outside : machine .State → Type 0
@@ -50,7 +50,7 @@ alone P = record {
   given = λ w s. switch (s .plain) w;
 }
 
--- Any number of them on one main; a password is given to all.
+-- Any number of such sites on one main: outside Setup if each is, and a password is given to all.
 abbrev pub flats : Site → Site
 flats S = record {
   machine = several (S .machine);

@@ -1,4 +1,4 @@
--- Laws that the proofs of every crate cite.
+-- Laws that proofs of other crates share.
 use mathlib.Core.Bool.{Bool, true, false, cond, _||_, true≢false}
 use mathlib.Core.Path.{_≡_, refl, sym, _∙_}
 use Prim.Native.Nat.{ℕ, _<_, _≤_}
@@ -28,7 +28,7 @@ neither false b h = (refl, h)
 pub one-outcome {ℓ} : {A : Type ℓ} {meant : A} (r s : A) → r ≡ meant → s ≡ meant → r ≡ s
 one-outcome r s p q = p ∙ sym q
 
--- By the order of two numbers: two ways, or three.
+-- Two numbers: the first is below the second, or it is not.
 pub two-ways {ℓ} : {X : Type ℓ} (a b : ℕ) → (a < b → X) → (b ≤ a → X) → X
 two-ways {X} a b under over = go (ltb a b) refl
   where
@@ -36,6 +36,7 @@ two-ways {X} a b under over = go (ltb a b) refl
     go true e = under (ltb-true a b e)
     go false e = over (ltb-false a b e)
 
+-- Two numbers: the first is below the second, the same, or above it.
 pub three-ways {ℓ} : {X : Type ℓ} (a b : ℕ) → (a < b → X) → (a ≡ b → X) → (b < a → X) → X
 three-ways a b under same over =
     two-ways a b under (λ h. two-ways b a over (λ k. same (omega arith)))

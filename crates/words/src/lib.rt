@@ -1,1 +1,1 @@
-// The words in which the definitions of every crate are written, and the laws that every crate's proofs cite. It has no code.
+// Words that definitions of other crates share, and laws that their proofs share. It has no code.

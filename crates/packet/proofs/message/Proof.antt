@@ -1,4 +1,4 @@
--- `message` meets its contract: the stretch from byte 5 up to the checksum, and an empty one where the reader refuses.
+-- `message` meets its contract: the stretch between the header and the checksum, and an empty one where the reader refuses.
 use borrow.Author.Needs.{needs}
 use Prim.Native.Nat.{_-_}
 use native.Mathlib.Omega.{arith}
