@@ -126,7 +126,7 @@ pub ticked-more : (n : ℕ) (d : Dimmer) → ticked (tickedBy n d) ≡ tickedBy 
 unfolding tickedBy
 ticked-more n d = ticked-more-from n (d .level) (d .last) (d .motion)
 
--- "A fade .. ends after exactly ticks per step times distance": until then it runs, one step for each time its ticks have passed ..
+-- 01, Levels and fades, 8: until its time is over a fade runs, one step for each time its ticks come round ..
 pub fade-runs : (n : ℕ) (from last target : Step) (ticks : ℕ) → 0 < ticks → n < distance from target * ticks → tickedBy n (headingTo from last target ticks) ≡ dimmer (walked (n / ticks) from target) last (Fading target ticks (metronomeBy n ticks (less ticks)))
 unfolding tickedBy tickedByFrom gone headingTo distance
 fade-runs n from last target ticks p h =
@@ -150,7 +150,7 @@ fade-ends n from last target ticks h =
     let apart : from .0 ≡ target .0 → ⊥ = λ e. omega arith in
     simp (ne-eqb ticks 0 (omega arith), ne-eqb (from .0) (target .0) apart, beats-whole n ticks p, le-ltb (n / ticks) (max 1 (distance from target)) (omega arith))))
 
--- A level that is set on a capable dimmer, with a rate of its own, is reached after exactly ticks per step times distance.
+-- A fade ends when the ticks of one step, times its steps, are over.
 moved-ends : (from last target : Step) (ticks : ℕ) → EndsAfter (distance from target * ticks) (headingTo from last target ticks) target
 unfolding running
 moved-ends from last target ticks =
@@ -162,17 +162,19 @@ moved-ends from last target ticks =
     positive : (n a b : ℕ) → n < a * b → 0 < b
     positive n a b h = three-ways b 0 (λ k. absurd (omega arith)) (λ k. absurd (omega (arith, rw k at h))) (λ k. k)
 
+-- The same of a level in percents set on a dimmer that can dim, with a rate of its own.
 pub fade-takes : (d : Dimmer) (level rate : ℕ) (options : Options) → options .capable ≡ true → level ≤ 100 → rate ≤ 15 → EndsAfter (distance (d .level) (stepOf (percent level)) * ticksPerStep rate) (setTo d level rate options) (stepOf (percent level))
 unfolding setTo allowed wanted rateOf
 fade-takes d level rate options able h k =
     simp (able, le-ltb 100 level h, le-ltb 15 rate k)
     (moved-ends (d .level) (remembered (stepOf (percent level)) (d .last)) (stepOf (percent level)) (ticksPerStep rate))
 
--- (h) "Rate 4, 0 to 50%: 600 ticks; rate 15, 0 to 100%: 864,000."
+-- 01, Numbers to test by, 8 (h): half the way at rate 4.
 pub half-at-rate-4 : (last : Step) (motion : Motion) (options : Options) → options .capable ≡ true → EndsAfter 600 (setTo (dimmer off last motion) 50 4 options) (step 100)
 unfolding distance stepOf ticksPerStep
 half-at-rate-4 last motion options able = fade-takes (dimmer off last motion) 50 4 options able (omega arith) (omega arith)
 
+-- 01, Numbers to test by, 8 (h): the whole way at rate 15.
 pub full-at-rate-15 : (last : Step) (motion : Motion) (options : Options) → options .capable ≡ true → EndsAfter 864000 (setTo (dimmer off last motion) 100 15 options) full
 unfolding distance stepOf ticksPerStep
 full-at-rate-15 last motion options able = fade-takes (dimmer off last motion) 100 15 options able (omega arith) (omega arith)
@@ -192,12 +194,12 @@ flips-shown b =
     (λ k. simp (ne-eqb b 0 (omega arith), ne-eqb (b % 2) 1 (omega arith), eq-eqb (b % 2) 0 (omega arith)))
     (λ k. simp (ne-eqb b 0 (omega arith), eq-eqb (b % 2) 1 (omega arith), ne-eqb (b % 2) 0 (omega arith))))
 
--- "Blink goes to 200 at once and flips between 200 and 0": in every other period it shows 200.
+-- 01, Levels and fades, 10: a Blink is full in its first period and in every other one after it, and off in those between.
 pub blink-shows : (n : ℕ) (d : Dimmer) (value : ℕ) → tickedBy n (setBlinking d value) .level ≡ (if eqb (n / flipTicks value % 2) 0 then full else off)
 unfolding tickedBy tickedByFrom setBlinking
 blink-shows n d value = rw (beats-whole n (flipTicks value) (blink-takes value)) (flips-shown (n / flipTicks value))
 
--- Level, Last On Level and target stay within 0 to 200, whatever is done.
+-- Level, Last On Level and target stay at most 200, whatever is done.
 pub fresh-within : (level : Step) → level .0 ≤ 200 → Within (freshDimmer level)
 unfolding freshDimmer
 fresh-within level h = record { level = h; last = omega arith; motion = tt }

@@ -8,12 +8,14 @@ use Rattle.dimmer.specs.declared.Motion.the-variants.{Idle, Fading, Blin
 use Rattle.dimmer.specs.declared.Dimmer.{Dimmer}
 use Rattle.dimmer.specs.Dimmer.{tickedBy}
 
--- "Unless replaced it ends after exactly ticks per step times distance": what runs before the given tick rests at its target from then on.
+-- Whether a fade or blink runs.
 unfoldable pub running : Motion → Bool
 running Idle = false
 running (Fading target period left) = true
 running (Blinking period left) = true
 
+-- 01, Levels and fades, 8, on the end of a fade: something runs at every tick before the given one, and from that tick on the dimmer
+-- rests at the target.
 pub record EndsAfter (total : ℕ) (d : Dimmer) (target : Step) : Type 0 where
   pub runs : (n : ℕ) → n < total → running (tickedBy n d .motion) ≡ true
   pub rests : (n : ℕ) → total ≤ n → (tickedBy n d .motion ≡ Idle) × (tickedBy n d .level ≡ target)

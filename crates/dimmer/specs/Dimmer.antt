@@ -1,4 +1,4 @@
--- Levels and fades, as document 01 has them under that heading.
+-- 01, Levels and fades: a level set, the fade or blink that moves it, a stop, and the ticks in between.
 use mathlib.Core.Bool.{Bool}
 use mathlib.Core.List.{List, [], _∷_}
 use Prim.Native.Nat.{ℕ, _+_, _-_, _*_, _/_, _%_, _≤_, max}
@@ -16,128 +16,144 @@ use Rattle.dimmer.specs.declared.Dimmer.{Dimmer}
 abbrev pub dimmer : Step → Step → Motion → Dimmer
 dimmer level last motion = record { level = level; last = last; motion = motion }
 
--- "Dimmer options 0x8D: bits 3-0 default rate, bit 4 dimming capable."
+-- 01, Registers, 6: the options byte; its low four bits are a rate, the bit above them says whether the load can be dimmed.
 unfoldable pub optionsOf : ℕ → Options
 optionsOf byte = record { rate = byte % 16; capable = eqb (byte / 16 % 2) 1 }
 
--- "Ticks per step for rates 1 to 15: 1, 2, 4, 6, 8, 12, 24, 36, 72, 144, 360, 720, 1080, 2160, 4320; rate 0 snaps."
+-- 01, Levels and fades, 2: the ticks of one step at each rate from 0 on; at rate 0 the level is there at once.
 abbrev pub table : List ℕ
 table = 0 ∷ 1 ∷ 2 ∷ 4 ∷ 6 ∷ 8 ∷ 12 ∷ 24 ∷ 36 ∷ 72 ∷ 144 ∷ 360 ∷ 720 ∷ 1080 ∷ 2160 ∷ 4320 ∷ []
 
+-- The ticks of one step at a rate; past 15 they are 0 (decision 42).
 unfoldable pub ticksPerStep : ℕ → ℕ
 ticksPerStep rate = getD table rate 0
 
--- "Setting a level: above 100 means the Last On Level, held in steps, 200 after a start or restart."
+-- 01, Levels and fades, 3: a level past 100 stands for the Last On Level, which is held in steps.
 unfoldable pub wanted : ℕ → Step → Step
 wanted level last = if ltb 100 level then last else stepOf (percent level)
 
+-- 01, Levels and fades, 3: the Last On Level is full after a start or restart; nothing runs.
 unfoldable pub freshDimmer : Step → Dimmer
 freshDimmer level = dimmer level full Idle
 
--- "A missing rate, or one above 15, is the default rate. Not capable: every rate is 0 and a nonzero target becomes 200."
+-- 01, Levels and fades, 4 and 5: a rate past 15, which a missing one is handed on as, is the default one; a load that cannot be
+-- dimmed has rate 0 alone.
 unfoldable pub rateOf : Options → ℕ → ℕ
 rateOf options asked = if options .capable then (if ltb 15 asked then options .rate else asked) else 0
 
+-- 01, Levels and fades, 5: a load that cannot be dimmed is off or full.
 unfoldable pub allowed : Bool → Step → Step
 allowed capable target = if capable then target else (if eqb (target .0) 0 then target else full)
 
--- "A nonzero target becomes the Last On Level."
+-- 01, Levels and fades, 7: the Last On Level is the latest target other than 0; by sentence 9 the same of the step at a stop.
 unfoldable pub remembered : Step → Step → Step
 remembered target last = if eqb (target .0) 0 then last else target
 
--- A fade begins where there is a way to go and time to take for it.
+-- A dimmer sent to a target: a fade begins where there is a way to go and time to take for it, else it is there at once.
 unfoldable pub headingTo : Step → Step → Step → ℕ → Dimmer
 headingTo from last target ticks =
     if eqb ticks 0 then dimmer target last Idle
     else if eqb (from .0) (target .0) then dimmer target last Idle
     else dimmer from last (Fading target ticks (less ticks))
 
--- "Default rate and capability are read when the level is set."
+-- 01, Levels and fades, 3 to 7, in their order: a level is set, by the options as they stand then. By sentence 12 whatever ran is replaced.
 unfoldable pub setTo : Dimmer → ℕ → ℕ → Options → Dimmer
 setTo d level rate options =
     let target = allowed (options .capable) (wanted level (d .last)) in
     headingTo (d .level) (remembered target (d .last)) target (ticksPerStep (rateOf options rate))
 
--- "A fade moves one step each time its ticks have passed."
+-- 01, Levels and fades, 8: a fade's next step, one nearer to its target.
 unfoldable pub towards : Step → Step → Step
 towards level target =
     if ltb (level .0) (target .0) then step (level .0 + 1)
     else if ltb (target .0) (level .0) then step (level .0 - 1)
     else level
 
+-- The dimmer after that step: with the one that reaches the target the fade is over.
 unfoldable pub stepped : Step → Step → Step → ℕ → Dimmer
 stepped level last target period =
     if eqb (towards level target .0) (target .0) then dimmer target last Idle
     else dimmer (towards level target) last (Fading target period (less period))
 
--- "Blink .. flips between 200 and 0 each 4 x value ticks; value missing or 0 means 30."
+-- 01, Levels and fades, 10: a flip comes every four ticks times the value; 0, which a missing one is handed on as, counts as 30.
 unfoldable pub flipTicks : ℕ → ℕ
 flipTicks value = 4 * (if eqb value 0 then 30 else value)
 
+-- 01, Levels and fades, 10: a flip leads from off to full, and from any other step to off.
 unfoldable pub flipped : Step → Step
 flipped level = if eqb (level .0) 0 then full else off
 
--- "Blink goes to 200 at once. .. It does not touch the Last On Level."
+-- 01, Levels and fades, 10 to 12: Blink begins full, leaves the Last On Level alone, and replaces whatever ran.
 unfoldable pub setBlinking : Dimmer → ℕ → Dimmer
 setBlinking d value = dimmer full (d .last) (Blinking (flipTicks value) (less (flipTicks value)))
 
--- "Stopping a running fade or blink makes a nonzero step the Last On Level; stopping nothing does nothing."
+-- 01, Levels and fades, 9: a stop remembers the step that a fade or blink has come to; at rest it is idle.
 unfoldable pub stoppedFrom : Step → Step → Motion → Dimmer
 stoppedFrom level last Idle = dimmer level last Idle
 stoppedFrom level last (Fading target period left) = dimmer level (remembered level last) Idle
 stoppedFrom level last (Blinking period left) = dimmer level (remembered level last) Idle
 
+-- The same of a whole dimmer.
 unfoldable pub stopped : Dimmer → Dimmer
 stopped d = stoppedFrom (d .level) (d .last) (d .motion)
 
--- One tick of what runs.
+-- 01, Levels and fades, 8: a fade one tick later, with a step where its metronome beats.
 unfoldable pub faded : Step → Step → Step → ℕ → ℕ → Dimmer
 faded level last target period left =
     if beats left then stepped level last target period
     else dimmer level last (Fading target period (less left))
 
+-- 01, Levels and fades, 10: a blink one tick later, with a flip where its metronome beats.
 unfoldable pub flickered : Step → Step → ℕ → ℕ → Dimmer
 flickered level last period left =
     dimmer (if beats left then flipped level else level) last (Blinking period (metronome period left))
 
+-- One tick later, by what runs.
 unfoldable pub tickedFrom : Step → Step → Motion → Dimmer
 tickedFrom level last Idle = dimmer level last Idle
 tickedFrom level last (Fading target period left) = faded level last target period left
 tickedFrom level last (Blinking period left) = flickered level last period left
 
+-- The dimmer one tick later.
 unfoldable pub ticked : Dimmer → Dimmer
 ticked d = tickedFrom (d .level) (d .last) (d .motion)
 
--- Level, Last On Level and a fade's target lie within 0 to 200.
+-- A fade's target is at most 200.
 abbrev pub TargetWithin : Motion → Type 0
 TargetWithin Idle = Unit {0}
 TargetWithin (Fading target period left) = target .0 ≤ 200
 TargetWithin (Blinking period left) = Unit {0}
 
+-- Level, Last On Level and a fade's target are at most 200.
 pub record Within (d : Dimmer) : Type 0 where
   pub level : d .level .0 ≤ 200
   pub last : d .last .0 ≤ 200
   pub motion : TargetWithin (d .motion)
 
--- After n ticks, in closed form: a fade has gone as many steps as its metronome has beaten, and a blink has flipped as often.
+-- How many steps lie between two levels.
 unfoldable pub distance : Step → Step → ℕ
 distance level target = (target .0 - level .0) + (level .0 - target .0)
 
+-- The level after so many steps of the way.
 unfoldable pub walked : ℕ → Step → Step → Step
 walked steps level target = step (if ltb (level .0) (target .0) then level .0 + steps else level .0 - steps)
 
+-- A fade after so many steps, its metronome at `left`: on its way, or at rest once it is there. One that begins at its target has
+-- one step to take all the same (decision 43).
 unfoldable pub gone : ℕ → ℕ → Step → Step → Step → ℕ → Dimmer
 gone steps left level last target period =
     if ltb steps (max 1 (distance level target))
     then dimmer (walked steps level target) last (Fading target period left)
     else dimmer target last Idle
 
+-- The level after so many flips.
 unfoldable pub flippedBy : ℕ → Step → Step
 flippedBy flips level =
     if eqb flips 0 then level
     else if eqb (flips % 2) 1 then flipped level
     else flipped (flipped level)
 
+-- n ticks later, in closed form: a fade has gone as many steps as its metronome has beaten, and a blink has flipped as often.
 unfoldable pub tickedByFrom : ℕ → Step → Step → Motion → Dimmer
 tickedByFrom n level last Idle = dimmer level last Idle
 tickedByFrom n level last (Fading target period left) =
@@ -145,5 +161,6 @@ tickedByFrom n level last (Fading target period left) =
 tickedByFrom n level last (Blinking period left) =
     dimmer (flippedBy (beatsBy n period left) level) last (Blinking period (metronomeBy n period left))
 
+-- The dimmer n ticks later.
 unfoldable pub tickedBy : ℕ → Dimmer → Dimmer
 tickedBy n d = tickedByFrom n (d .level) (d .last) (d .motion)

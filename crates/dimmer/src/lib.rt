@@ -24,13 +24,14 @@ pub enum Motion {
     },
 }
 
+// `last`: the Last On Level.
 pub struct Dimmer {
     pub level: Step,
     pub last: Step,
     pub motion: Motion,
 }
 
-// Ticks per step by rate; rate 0 snaps.
+// The ticks of one step by rate; at rate 0 the level is there at once.
 const TICKS: [u16; 16] = [
     0,
     1,
@@ -51,7 +52,7 @@ const TICKS: [u16; 16] = [
 ];
 
 impl Options {
-    // Bits 3-0 default rate, bit 4 dimming capable.
+    // The low four bits are the default rate; the next says whether the load can be dimmed.
     pub fn of(byte: u8) -> Options
         ensures { λ r. ⌜ r ≡ optionsOf byte ⌝ }
     {
@@ -63,7 +64,7 @@ impl Options {
         }
     }
 
-    // A missing rate, or one above 15, is the default rate; not capable, every rate is 0.
+    // A rate past 15 is the default one; a load that cannot be dimmed has rate 0 alone.
     fn rate(self, asked: u8) -> u8
         ensures { λ r. ⌜ r ≡ rateOf self asked ⌝ }
     {
@@ -89,7 +90,7 @@ impl Dimmer {
         }
     }
 
-    // Sets a level in percents; above 100 means the Last On Level.
+    // Sets a level in percents; one past 100 is the Last On Level.
     pub fn set(self, level: u8, rate: u8, options: Options) -> Dimmer
         ensures { λ r. ⌜ r ≡ setTo self level rate options ⌝ }
     {
@@ -104,7 +105,7 @@ impl Dimmer {
         )
     }
 
-    // Stops a running fade or blink.
+    // Stops what runs and remembers its step.
     pub fn stop(self) -> Dimmer
         ensures { λ r. ⌜ r ≡ stopped self ⌝ }
     {
@@ -130,7 +131,7 @@ impl Dimmer {
         }
     }
 
-    // Goes to full at once and flips each 4 x value ticks.
+    // Full at once, and then a flip every four ticks times the value.
     pub fn blink(self, value: u8) -> Dimmer
         ensures { λ r. ⌜ r ≡ setBlinking self value ⌝ }
     {
@@ -168,7 +169,7 @@ impl Dimmer {
     }
 }
 
-// Ticks per step of a rate.
+// The ticks of one step at a rate; past 15 they are 0.
 pub fn ticks(rate: u8) -> u16
     ensures { λ r. ⌜ r ≡ ticksPerStep rate ⌝ }
 {
@@ -187,7 +188,7 @@ fn wanted(level: u8, last: Step) -> Step
     Percent(level).step()
 }
 
-// Not capable, a nonzero target becomes full.
+// A load that cannot be dimmed is off or full.
 fn allowed(capable: bool, target: Step) -> Step
     ensures { λ r. ⌜ r ≡ allowed capable target ⌝ }
 {
@@ -200,7 +201,7 @@ fn allowed(capable: bool, target: Step) -> Step
     Step::FULL
 }
 
-// A nonzero step becomes the Last On Level.
+// A step other than 0 is remembered as the Last On Level.
 fn remembered(target: Step, last: Step) -> Step
     ensures { λ r. ⌜ r ≡ remembered target last ⌝ }
 {
@@ -210,6 +211,7 @@ fn remembered(target: Step, last: Step) -> Step
     target
 }
 
+// A fade begins where there is a way to go and time to take for it.
 fn moved(from: Step, last: Step, target: Step, ticks: u16) -> Dimmer
     ensures { λ r. ⌜ r ≡ headingTo from last target ticks ⌝ }
 {

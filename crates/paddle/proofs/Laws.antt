@@ -169,7 +169,7 @@ unfolding released
 released-contacts c p =
     both (λ (q : Paddle). (q .local ≡ withContact c false p .local) × (q .slave ≡ withContact c false p .slave)) (goesUp c p) (ended-contacts (withContact c false p)) (refl, refl)
 
--- "An edge that finds its contact already so is 0 and alters nothing."
+-- A contact put where it is.
 as-it-is : (c : Contact) (p : Paddle) → withContact c (touched c p) p ≡ p
 unfolding withContact touched
 as-it-is Local p = refl
@@ -184,20 +184,23 @@ unfolding touched down
 touched-down Local p e = ap (λ (b : Bool). b || p .slave) e
 touched-down Slave p e = ap (λ (b : Bool). p .local || b) e ∙ or-true (p .local)
 
+-- 01, Answer numbers, 4: pressing what is pressed changes nothing of the paddle.
 pub pressed-again : (c : Contact) (p : Paddle) → touched c p ≡ true → pressed c p ≡ p
 unfolding pressed holdFrom
 pressed-again c p e = simp (stays c p true e, touched-down c p e)
 
+-- 01, Answer numbers, 4: nor does letting go what is up, and there is no gesture.
 pub released-again : (c : Contact) (p : Paddle) → touched c p ≡ false → (released c p ≡ p) × (gestureUp c p ≡ Nothing)
 unfolding released gestureUp goesUp
 released-again c p e = simp (stays c p false e, and-not-self (down p)) (refl, refl)
 
--- A press that overlaps another of the same paddle moves nothing but its contact; so does a release that leaves the paddle down.
+-- 01, Paddles, 1: a press that overlaps another of the same paddle moves nothing but its contact.
 pub pressed-over : (c : Contact) (p : Paddle) → down p ≡ true → pressed c p ≡ withContact c true p
 unfolding pressed holdFrom withContact
 pressed-over Local p e = simp e
 pressed-over Slave p e = simp e
 
+-- 01, Paddles, 1: so does a release that leaves the paddle down.
 pub released-under : (c : Contact) (p : Paddle) → down (withContact c false p) ≡ true
     → (released c p ≡ withContact c false p) × (gestureUp c p ≡ Nothing)
 unfolding released gestureUp goesUp
@@ -233,7 +236,7 @@ let-go-after n c hold gap taps =
     let e = let-go c (lessBy n holdTicks) (lessBy n gap) (still n taps) in
     (ap (released c) h ∙ e .0, ap (gestureUp c) h ∙ e .1)
 
--- "released before 60, nothing": the gap goes on as if there had been no press.
+-- 01, Paddles, 2: too short a press is nothing; the gap goes on as if there had been none.
 pub too-short : (n : ℕ) (c : Contact) (hold gap taps : ℕ) → n < 60
     → (pressFor n c (raised hold gap taps) ≡ raised (180 - n) (gap - n) taps) × (gestureFor n c (raised hold gap taps) ≡ Nothing)
 unfolding ended ending lessBy
@@ -241,7 +244,7 @@ too-short n c hold gap taps h =
     let e = let-go-after n c hold gap taps in
     simp (e .0, e .1, le-ltb 179 n (omega arith), ne-eqb (180 - n) 0 (omega arith), lt-leb (180 - n) 120 (omega arith)) (refl, refl)
 
--- "60 to 179, a tap": it is counted, and restarts the gap.
+-- 01, Paddles, 2 and 3: a press of 60 to 179 ticks is counted, and the gap begins again.
 pub a-tap : (n : ℕ) (c : Contact) (hold gap taps : ℕ) → 60 ≤ n → n < 180
     → (pressFor n c (raised hold gap taps) ≡ raised (180 - n) 180 (oneTapMore taps)) × (gestureFor n c (raised hold gap taps) ≡ Nothing)
 unfolding ended ending tapped lessBy
@@ -249,7 +252,7 @@ a-tap n c hold gap taps h k =
     let e = let-go-after n c hold gap taps in
     simp (e .0, e .1, le-ltb 179 n (omega arith), ne-eqb (180 - n) 0 (omega arith), le-leb (180 - n) 120 (omega arith)) (refl, refl)
 
--- "at 180, Hold, which drops earlier taps, and Release when let go".
+-- 01, Paddles, 2: after a longer one the taps are gone, and letting go is Release.
 pub a-hold : (n : ℕ) (c : Contact) (hold gap taps : ℕ) → 180 ≤ n
     → (pressFor n c (raised hold gap taps) ≡ raised 0 (gap - n) 0) × (gestureFor n c (raised hold gap taps) ≡ Release)
 unfolding ended ending lessBy
@@ -274,7 +277,7 @@ run-open n hold gap taps h =
     (λ (some : 0 < taps). simp (ne-eqb taps 0 (omega arith), le-ltb (gap - 1) n (omega arith)))
     (λ (none : taps ≤ 0). simp (eq-eqb taps 0 (omega arith)))
 
--- "A press at gap 179 joins the run": so does every press, long enough, before the closing tick.
+-- 01, Paddles, 4: a press that is long enough and comes before the closing tick adds to the run.
 pub joins : (n m : ℕ) (c : Contact) (hold gap taps : ℕ) → n < max 1 gap → 60 ≤ m → m < 180
     → pressFor m c (paddleTicks n (raised hold gap taps)) ≡ raised (180 - m) 180 (oneTapMore taps)
 joins n m c hold gap taps before long short =
@@ -289,7 +292,7 @@ closes hold gap taps =
     (λ (some : 0 < taps). simp (ne-eqb taps 0 (omega arith), eq-eqb (gap - 1) (gap - 1) refl))
     (λ (none : taps ≤ 0). simp (eq-eqb taps 0 (omega arith)))
 
--- "The tap count stops at 11": the tap after the kth of a run.
+-- 01, Paddles, 5: the tap after the kth of a run.
 pub counts : (k : ℕ) → oneTapMore (min k 11) ≡ min (suc k) 11
 unfolding oneTapMore
 counts k =
@@ -297,11 +300,12 @@ counts k =
     (λ (h : k < 11). let e : min k 11 ≡ k = omega arith in simp (e, lt-ltb k 11 h) (omega arith))
     (λ (h : 11 ≤ k). let e : min k 11 ≡ 11 = omega arith in simp e (omega arith))
 
+-- No tap leads past the eleventh.
 pub counted-within : (taps : ℕ) → taps ≤ 11 → oneTapMore taps ≤ 11
 unfolding oneTapMore
 counted-within taps h = cases (λ (x : ℕ). x ≤ 11) (ltb taps 11) (λ e. omega (arith, ltb-true taps 11 e)) (λ e. h)
 
--- Cases (f) and (g) of document 01.
+-- 01, Numbers to test by, 6 (f).
 pub case-f : (c : Contact) → CaseF c
 unfolding oneTapMore
 case-f c = record {
@@ -311,6 +315,7 @@ case-f c = record {
   hold = (hold-comes 179 c 0 0 0, a-hold 180 c 0 0 0 (omega arith) .1);
 }
 
+-- 01, Numbers to test by, 7 (g).
 pub case-g : (c : Contact) → CaseG c
 unfolding oneTapMore
 case-g c = ap (λ (p : Paddle). pressFor 60 c (paddleTicks 179 p) .taps) (a-tap 60 c 0 0 0 (omega arith) (omega arith) .0)

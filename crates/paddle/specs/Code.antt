@@ -12,17 +12,18 @@ use Prim.Native.Nat.{ℕ}
 use lib.Dec.{eqb}
 use Rattle.words.specs.Words.{if_then_else_}
 
+-- A paddle after an event, and the gesture of that event.
 abbrev pub turn : Paddle → Gesture → Turn
 turn p g = record { paddle = p; gesture = g }
 
--- Whether nothing is completed.
+-- Whether there is no gesture.
 unfoldable pub completesNothing : Gesture → Bool
 completesNothing Nothing = true
 completesNothing (Taps n) = false
 completesNothing Hold = false
 completesNothing Release = false
 
--- n ticks are just the wait; n ticks are more than the wait.
+-- The tick after n ticks ends the wait.
 unfoldable pub due : ℕ → Wait → Bool
 due n never = false
 due n (after k) = eqb k n
@@ -35,20 +36,21 @@ gestureAfter n p = if due n (wait p) then completed p else Nothing
 abbrev pub Once : Paddle → Type 0
 Once p = (m n : ℕ) → (gesture (paddleTicks m p) ≡ Nothing → ⊥) → (gesture (paddleTicks n p) ≡ Nothing → ⊥) → m ≡ n
 
--- A press of n ticks: the paddle let go, and the gesture then.
+-- The paddle after a press of n ticks and its release.
 abbrev pub pressFor : ℕ → Contact → Paddle → Paddle
 pressFor n contact p = released contact (paddleTicks n (pressed contact p))
 
+-- The gesture of that release.
 abbrev pub gestureFor : ℕ → Contact → Paddle → Gesture
 gestureFor n contact p = gestureUp contact (paddleTicks n (pressed contact p))
 
--- "(f) Presses of 59, 60, 179, 180 ticks: nothing, tap, tap, Hold", of a paddle just started.
+-- 01, Numbers to test by, 6 (f): presses of four lengths, of a paddle just started.
 pub record CaseF (contact : Contact) : Type 0 where
   pub nothing : (pressFor 59 contact freshPaddle .taps ≡ 0) × (gestureFor 59 contact freshPaddle ≡ Nothing)
   pub shortest : (pressFor 60 contact freshPaddle .taps ≡ 1) × (gestureFor 60 contact freshPaddle ≡ Nothing)
   pub longest : (pressFor 179 contact freshPaddle .taps ≡ 1) × (gestureFor 179 contact freshPaddle ≡ Nothing)
   pub hold : (gesture (paddleTicks 179 (pressed contact freshPaddle)) ≡ Hold) × (gestureFor 180 contact freshPaddle ≡ Release)
 
--- "(g) A press at gap 179 joins the run": two taps, the second pressed 179 ticks after the first was counted.
+-- 01, Numbers to test by, 7 (g): two taps are one run, the second pressed 179 ticks after the first was counted.
 abbrev pub CaseG : Contact → Type 0
 CaseG contact = pressFor 60 contact (paddleTicks 179 (pressFor 60 contact freshPaddle)) .taps ≡ 2

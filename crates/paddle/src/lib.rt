@@ -6,11 +6,11 @@ ghost use Rattle.paddle.specs.Code.{turn, completesNothing};
 
 // Ticks from the press to Hold.
 const HOLD: u16 = 180;
-// Ticks from a counted tap to the close of its run.
+// Ticks from a counted tap to the close of its run, if the paddle is up then.
 const GAP: u16 = 180;
 // A press of 60 ticks or more leaves at most this much of HOLD.
 const TAP: u16 = 120;
-// The tap count stops here.
+// No more taps than this are counted.
 const MOST: u8 = 11;
 
 // A paddle has a contact of its own and one of the slave switch.
@@ -42,6 +42,7 @@ pub struct Turn {
 }
 
 impl Gesture {
+    // Whether there is no gesture.
     pub fn none(self) -> bool
         ensures { λ r. ⌜ r ≡ completesNothing self ⌝ }
     {
@@ -154,6 +155,7 @@ impl Paddle {
         }
     }
 
+    // A tap is counted, and the gap begins again.
     fn tapped(mut self) -> Paddle
         ensures { λ r. ⌜ r ≡ tapped self ⌝ }
     {
@@ -181,6 +183,7 @@ impl Paddle {
         Gesture::Nothing
     }
 
+    // The gesture of the tick that ends the run.
     fn completed(self) -> Gesture
         ensures { λ r. ⌜ r ≡ completed self ⌝ }
     {
@@ -212,6 +215,7 @@ impl Paddle {
         self.hold
     }
 
+    // Hold drops the taps, and a run that closes gives them away.
     fn kept(self) -> u8
         ensures { λ r. ⌜ r ≡ tapsKept self ⌝ }
     {
