@@ -36,7 +36,7 @@ unfolding lampTicks
 skip-ticks zero l = skip-none l
 skip-ticks (suc n) l = sym (skip-more n l) ∙ ap nextLamp (skip-ticks n l)
 
--- A blink shows its colour while 60 of its 120 ticks or more are left: in the first 60.
+-- A blink shows its colour while 60 of its 120 ticks or more are left after this one: in the first 60.
 blink-shows : (hue : Colour) (n left : ℕ) → left ≡ 119 - n % 120 → byHalves hue left ≡ blinkAfter hue n
 unfolding byHalves blinkAfter
 blink-shows hue n left e =
@@ -52,7 +52,7 @@ version-shows n l mode digit options level e h =
     let number : (480 - n - 1) / 120 ≡ 3 - n / 120 = omega arith in
     simp (e, lt-ltb 0 (480 - n) (omega arith), number) (blink-shows (bitColour (bitOf digit (3 - n / 120))) n ((480 - n - 1) % 120) (omega arith))
 
--- The low four bits of register 0x0B count, and no other.
+-- Only four bits of the digit count.
 bit-low : (digit number : ℕ) → bitOf digit number ≡ bitOf (digit % 16) number
 unfolding bitOf
 bit-low digit zero = omega arith
@@ -61,6 +61,7 @@ bit-low digit (suc (suc zero)) = omega arith
 bit-low digit (suc (suc (suc zero))) = omega arith
 bit-low digit (suc (suc (suc (suc n)))) = simp (lt-ltb 3 (suc (suc (suc (suc n)))) (omega arith))
 
+-- So it does not matter what stands above the low four bits of register 0x0B.
 pub digit-low : (l : Lamp) (mode : Mode) (digit options : ℕ) (level : Step) → colour l mode digit options level ≡ colour l mode (digit % 16) options level
 unfolding colour versionColour
 digit-low l mode digit options level = simp (bit-low digit (less (l .version) / 120))
@@ -71,7 +72,7 @@ pub version-over : (n : ℕ) (l : Lamp) (mode : Mode) (digit options : ℕ) (lev
 unfolding lampSkip colour lessBy
 version-over n l mode digit options level h = simp (le-ltb 0 (l .version - n) (omega arith))
 
--- Case (i) of document 01.
+-- 01, Numbers to test by, 9 (i).
 pub case-i : (mode : Mode) (options : ℕ) (level : Step) → CaseI mode options level
 unfolding versionAfter blinkAfter bitColour bitOf
 case-i mode options level = record {
@@ -87,7 +88,7 @@ case-i mode options level = record {
     seen : (n k : ℕ) → 3 - n / 120 ≡ k → n % 120 < 60 → versionAfter 2 n ≡ bitColour (bitOf 2 k)
     seen n k e h = simp (e, lt-ltb (n % 120) 60 h)
 
--- "Mode blinks count from entry, colour first", also while the version blinks hide them.
+-- 01, Lamp, start, factory values, 2: the mode's blinks count on from its beginning, also while the version blinks hide them.
 pub phase-after : (n : ℕ) (l : Lamp) → lampSkip n (entered l) .phase ≡ 119 - n % 120
 unfolding lampSkip entered metronomeBy less
 phase-after n l =
@@ -102,15 +103,17 @@ module _ (n : ℕ) (l : Lamp) (digit options : ℕ) (level : Step) (over : l .ve
   entry-shows mode hue rule =
       version-over n (entered l) mode digit options level over ∙ (rule (lampSkip n (entered l)) ∙ blink-shows hue n (lampSkip n (entered l) .phase) (phase-after n l))
 
+  -- Setup blinks green.
   pub setup-shows : colour (lampSkip n (entered l)) Setup digit options level ≡ blinkAfter Green n
   unfolding modeColour
   setup-shows = entry-shows Setup Green (λ k. refl)
 
+  -- Factory Default blinks red.
   pub factory-shows : colour (lampSkip n (entered l)) Factory digit options level ≡ blinkAfter Red n
   unfolding modeColour
   factory-shows = entry-shows Factory Red (λ k. refl)
 
--- A packet's blink shows in its own answer and in those of the next 29 ticks; then the diagnostic light is orange again.
+-- A signal shows in its own answer and in those of the next 29 ticks; then the diagnostic light is orange again.
 pub blink-lasts : (n : ℕ) (hue : Colour) (l : Lamp) → diagnosed (lampSkip n (signalSet hue l)) ≡ (if ltb n 30 then hue else Orange)
 unfolding lampSkip signalSet diagnosed lessBy
 blink-lasts n hue l =
@@ -126,22 +129,24 @@ flash-lasts n l level =
     (λ (h : n < 120). simp (lt-ltb n 120 h, ne-eqb (120 - n) 0 (omega arith)))
     (λ (h : 120 ≤ n). simp (le-ltb n 120 h, eq-eqb (120 - n) 0 (omega arith)))
 
--- In Normal the diagnostic light goes by the blink alone, and is orange where none runs.
+-- In Normal the diagnostic light goes by the signal alone,
 pub diagnostic-shows : (l : Lamp) (digit options : ℕ) (level : Step) → l .version ≡ 0 → diagnostic options ≡ true
     → colour l Normal digit options level ≡ diagnosed l
 unfolding colour modeColour normalColour
 diagnostic-shows l digit options level e d = simp (e, d)
 
+-- and is orange where none runs.
 pub orange : (l : Lamp) (digit options : ℕ) (level : Step) → l .version ≡ 0 → l .blink ≡ 0 → diagnostic options ≡ true
     → colour l Normal digit options level ≡ Orange
 unfolding diagnosed
 orange l digit options level e b d = diagnostic-shows l digit options level e d ∙ simp b
 
--- A packet's blink and a mode change leave the other timers alone, and so the colour that another rule gives.
+-- A signal leaves the other timers alone.
 pub blinked-alone : (hue : Colour) (l : Lamp) → (signalSet hue l .version ≡ l .version) × ((signalSet hue l .phase ≡ l .phase) × (signalSet hue l .flash ≡ l .flash))
 unfolding signalSet
 blinked-alone hue l = (refl, (refl, refl))
 
+-- A mode change leaves the version blinks and the signal alone.
 pub entered-alone : (l : Lamp) → (entered l .version ≡ l .version) × ((entered l .blink ≡ l .blink) × (entered l .hue ≡ l .hue))
 unfolding entered
 entered-alone l = (refl, (refl, refl))
@@ -152,11 +157,12 @@ unfolding output inverted
 output-within l level h =
     both (λ (s : Step). s .0 ≤ 200) (eqb (l .flash) 0) h (both (λ (s : Step). s .0 ≤ 200) (eqb (level .0) 0) (omega arith) (omega arith))
 
--- Where no flash runs the output is the level; under it a lit load is dark and a dark one lit.
+-- Where no flash runs the output is the level.
 pub output-plain : (l : Lamp) (level : Step) → l .flash ≡ 0 → output l level ≡ level
 unfolding output
 output-plain l level e = simp e
 
+-- Under the flash a lit load is dark and a dark one lit.
 pub output-flashed : (l : Lamp) (level : Step) → 0 < l .flash → output l level ≡ inverted level
 unfolding output
 output-flashed l level h = simp (ne-eqb (l .flash) 0 (omega arith))

@@ -10,20 +10,20 @@ use Rattle.lamp.specs.declared.Colour.the-variants.{Black, Red, Green}
 use Rattle.lamp.specs.declared.Lamp.{Lamp}
 use Rattle.lamp.specs.Lamp.{turnTicks, halfTicks, freshLamp, nextLamp, bitOf, bitColour, colour}
 
--- n ticks one by one, and in closed form.
+-- The lamp after n ticks, one by one.
 unfoldable pub lampTicks : ℕ → Lamp → Lamp
 lampTicks zero l = l
 lampTicks (suc n) l = nextLamp (lampTicks n l)
 
--- "colour first": a blink n ticks after it began, 60 ticks colour and 60 black.
+-- 01, Lamp, start, factory values, 2: blinks n ticks after they began: colour, then black, and so on.
 unfoldable pub blinkAfter : Colour → ℕ → Colour
 blinkAfter hue n = if ltb (n % turnTicks) halfTicks then hue else Black
 
--- "high bit first": the version blinks n ticks after they began.
+-- 01, Lamp, start, factory values, 1 (version): the version blinks n ticks after they began, bit 3 first.
 unfoldable pub versionAfter : ℕ → ℕ → Colour
 versionAfter digit n = blinkAfter (bitColour (bitOf digit (3 - n / turnTicks))) n
 
--- "(i) Version digit 2: red red green red", each for 60 ticks, in every mode and whatever the options and the level are.
+-- 01, Numbers to test by, 9 (i): the colours of digit 2, each for 60 ticks, in every mode and whatever the options and the level are.
 pub record CaseI (mode : Mode) (options : ℕ) (level : Step) : Type 0 where
   pub first : (n : ℕ) → n < 60 → colour (lampTicks n freshLamp) mode 2 options level ≡ Red
   pub second : (n : ℕ) → n < 60 → colour (lampTicks (120 + n) freshLamp) mode 2 options level ≡ Red

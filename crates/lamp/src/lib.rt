@@ -7,11 +7,11 @@ ghost use Rattle.lamp.specs.Lamp.{modeColour, versionColour, bitOf, bitC
 
 // Ticks of the four version blinks.
 const VERSION: u16 = 480;
-// Ticks of one blink, its black included; the colour shows while HALF of them or more are left.
+// Ticks of one blink, its black included; the colour shows while HALF of them or more are left after this one.
 const TURN: u16 = 120;
 
 const HALF: u16 = 60;
-// Ticks of a packet's blink, and of the flash after a mode change.
+// Ticks of the signal, and of the flash after a mode change.
 const BLINK: u16 = 30;
 
 const FLASH: u16 = 120;
@@ -23,7 +23,8 @@ pub enum Colour {
     Orange,
 }
 
-// `version`, `blink`, `flash`: ticks left of each. `phase`: the metronome of the mode blinks. `hue`: the blink's colour.
+// `version`, `blink`, `flash`: ticks left of the version blinks, of the signal and of the flash. `phase`: the metronome of the
+// mode's blinks. `hue`: the signal's colour.
 pub struct Lamp {
     pub version: u16,
     pub phase: u16,
@@ -46,7 +47,7 @@ impl Lamp {
         }
     }
 
-    // A packet was sent or received: a newer blink replaces an older one.
+    // A packet was sent or received: a signal begins and takes the place of an older one.
     pub fn blinked(self, hue: Colour) -> Lamp
         ensures { λ r. ⌜ r ≡ signalSet hue self ⌝ }
     {
@@ -78,7 +79,7 @@ impl Lamp {
         self
     }
 
-    // `digit`: register 0x0B. `options`: register 0x8B.
+    // `digit`: the low four bits of register 0x0B. `options`: register 0x8B.
     pub fn colour(self, mode: Mode, digit: u8, options: u8, level: Step) -> Colour
         ensures { λ r. ⌜ r ≡ colour self mode digit options level ⌝ }
     {
@@ -118,6 +119,7 @@ impl Lamp {
         by_level(options, level)
     }
 
+    // A signal that runs, else orange.
     fn diagnosed(self) -> Colour
         ensures { λ r. ⌜ r ≡ diagnosed self ⌝ }
     {
@@ -137,7 +139,7 @@ fn version_colour(digit: u8, left: u16) -> Colour
     blinking(bit_colour(bit(digit, number)), left % TURN)
 }
 
-// The version digit has four bits.
+// The version digit has the four bits 0 to 3.
 fn bit(digit: u8, number: u16) -> u8
     ensures { λ r. ⌜ r ≡ bitOf digit number ⌝ }
 {
@@ -156,6 +158,7 @@ fn bit_colour(one: u8) -> Colour
     Colour::Red
 }
 
+// The colour and then black, by the ticks that are left of the blink after this one.
 fn blinking(hue: Colour, phase: u16) -> Colour
     ensures { λ r. ⌜ r ≡ byHalves hue phase ⌝ }
 {
@@ -171,6 +174,7 @@ fn diagnostic(options: u8) -> bool
     (options >> 7) & 1 == 1
 }
 
+// The lowest two bits are for off, the next two for on.
 fn by_level(options: u8, level: Step) -> Colour
     ensures { λ r. ⌜ r ≡ byLevel options level ⌝ }
 {

@@ -50,7 +50,7 @@ seek-nowhere all link i (suc n) e = go (eqb (linkOf all i) link) refl e (seek-no
     go true t f later = absurd (let z : _≡_ {A = ℕ} 0 1 = cc in omega arith)
     go false t f later = none-more all link i (i + suc n) t (λ j from below. later f j from (omega arith))
 
--- The component found is the first of the sixteen with the link, and the link is valid.
+-- The component found is the first one with the link, and the link is valid.
 pub found-at : (all : List ℕ) (link i : ℕ) → found all link ≡ At i → (valid link ≡ true) × FirstWith all link i
 unfolding found
 found-at all link i e = go (valid link) refl e

@@ -26,12 +26,13 @@ use Rattle.registers.specs.declared.write.Write.the-variants.{Nothing, C
 use Rattle.registers.proofs.Laws.{by-secret, image-other, password-back}
 use Rattle.registers.specs.Code.{touches}
 
--- Both counters stand among the 256 registers, and neither is the password's.
+-- Both counters stand among the 256 registers.
 pub counter-within : (counter : Counter) → counterPlace counter < size
 unfolding counterPlace
 counter-within Setups = omega arith
 counter-within Restarts = omega arith
 
+-- Neither counter stands at a place of the password's.
 counter-plain : (counter : Counter) → secret (counterPlace counter) ≡ false
 unfolding counterPlace
 counter-plain Setups = refl
@@ -142,7 +143,7 @@ below first k last h = rw (lt-leb first k h)
 above : (first k last : ℕ) → last < k → between first k last ≡ false
 above first k last h = rw (le-ltb k (last + 1) (omega arith)) (and-false (leb first k))
 
--- "Other registers stay."
+-- 01, Lamp, start, factory values, 6: all else stays.
 factory-else : (k old : ℕ) → 0x03 < k → between 0x10 k 0xBF ≡ false → factoryAt k old ≡ old
 unfolding factoryAt
 factory-else k old h out =

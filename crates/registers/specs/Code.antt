@@ -15,30 +15,33 @@ use Rattle.registers.specs.declared.write.Write.the-variants.{Nothing, C
 use Rattle.registers.specs.Write.{sets}
 use mathlib.Core.Bool.{Bool, false}
 
--- "A switch starts from a copy of a lent image of 256 register bytes." Refused, the registers keep their bytes.
+-- 01, Events and time, 1: an image of 256 bytes is taken; any other is refused.
 unfoldable pub takenOf : List ℕ → Taken
 takenOf image = if eqb (length image) size then Apart (passwordIn image) else Refused
 
+-- The registers after that: those of the image, or, refused, every byte as it was (decision 54).
 unfoldable pub afterTaking : List ℕ → List ℕ → List ℕ
 afterTaking image all = if eqb (length image) size then apart image else all
 
+-- What taking an image promises: its answer, and every byte of the registers.
 pub record Took (image before : List ℕ) (answer : Taken) (after : List ℕ) : Type 0 where
   pub answered : answer ≡ takenOf image
   pub registers : after ≡ afterTaking image before
 
--- "1: image is not 256 bytes"; else it is taken.
+-- 01, Answer numbers, heading of the table and row 1: an image is refused if and only if it has another size than 256.
 pub record TakenExactly : Type 0 where
   pub taken : (image : List ℕ) → (numberTaken (takenOf image) ≡ 0) ↔ (length image ≡ size)
   pub refused : (image : List ℕ) → (numberTaken (takenOf image) ≡ 1) ↔ (length image ≡ size → ⊥)
 
--- Component i is the first of the sixteen with this link; none of the sixteen has it.
+-- Component i has this link, and none before it does.
 abbrev pub FirstWith : List ℕ → ℕ → ℕ → Type 0
 FirstWith all link i = (i < components) × ((linkOf all i ≡ link) × ((j : ℕ) → j < i → linkOf all j ≡ link → ⊥))
 
+-- None of the sixteen components has this link.
 abbrev pub NoneWith : List ℕ → ℕ → Type 0
 NoneWith all link = (j : ℕ) → j < components → linkOf all j ≡ link → ⊥
 
--- The same of the array without the password: its two places are never touched.
+-- Which places of the array a write sets: those of the 256 bytes, but never the password's two.
 unfoldable pub touches : Write → ℕ → ℕ → Bool
 touches write count place = if secret place then false else sets write count place
 

@@ -1,4 +1,5 @@
--- Where everything stands among the 256 registers, as document 01 has it under "Registers". `all` is the list of the 256 bytes.
+-- 01, Registers, 1 to 8: where everything stands. `all` is the list of the 256 bytes. A component, entry or paddle number past the
+-- last counts on from the first (decision 52).
 use mathlib.Core.Bool.{Bool, _||_}
 use mathlib.Core.List.{List}
 use Prim.Native.Nat.{ℕ, _+_, _*_, _%_}
@@ -11,20 +12,23 @@ use Rattle.registers.specs.declared.places.Entry.{Entry}
 use Rattle.registers.specs.declared.places.Counter.{Counter}
 use Rattle.registers.specs.declared.places.Counter.the-variants.{Setups, Restarts}
 
--- "256 register bytes"
+-- 01, Events and time, 1: how many registers there are.
 abbrev pub size : ℕ
 size = 256
 
--- "Network 0x00, unit 0x01, password 0x02-0x03, version digit low four bits of 0x0B."
+-- 01, Registers, 1: the network.
 abbrev pub networkIn : List ℕ → ℕ
 networkIn all = getD all 0x00 0
 
+-- 01, Registers, 1: the unit.
 abbrev pub unitIn : List ℕ → ℕ
 unitIn all = getD all 0x01 0
 
+-- 01, Registers, 1: the password's first byte.
 abbrev pub firstPlace : ℕ
 firstPlace = 0x02
 
+-- 01, Registers, 1: the password's second byte.
 abbrev pub secondPlace : ℕ
 secondPlace = 0x03
 
@@ -32,22 +36,27 @@ secondPlace = 0x03
 abbrev pub secret : ℕ → Bool
 secret place = eqb place firstPlace || eqb place secondPlace
 
+-- 01, Registers, 1: the version digit, the low half of its byte.
 abbrev pub digitIn : List ℕ → ℕ
 digitIn all = getD all 0x0B 0 % 16
 
--- "Receive components 0x40-0x6F: 16 of link, level, rate." A number past the sixteenth counts on from the first.
+-- 01, Registers, 2: how many receive components there are.
 abbrev pub components : ℕ
 components = 16
 
+-- 01, Registers, 2: where a receive component begins, with its link; each has three bytes.
 abbrev pub linkPlace : ℕ → ℕ
 linkPlace i = 0x40 + 3 * (i % components)
 
+-- 01, Registers, 2: its level comes next.
 abbrev pub levelPlace : ℕ → ℕ
 levelPlace i = linkPlace i + 1
 
+-- The link of the i-th component.
 abbrev pub linkOf : List ℕ → ℕ → ℕ
 linkOf all i = getD all (linkPlace i) 0
 
+-- 01, Registers, 2: the i-th component, its rate in the third byte.
 unfoldable pub componentIn : List ℕ → ℕ → Component
 componentIn all i =
     record {
@@ -56,14 +65,15 @@ componentIn all i =
       rate = getD all (linkPlace i + 2) 0;
     }
 
--- "Transmit components 0x70-0x74 top and 0x75-0x79 bottom: link, then command numbers for single, double, hold, release."
--- By the paddle's number: 0 is the top, 1 the bottom, and a number past these counts on from the top.
+-- 01, Registers, 3: two paddles; number 0 is the top, 1 the bottom.
 abbrev pub paddles : ℕ
 paddles = 2
 
+-- 01, Registers, 3: where a paddle's transmit component begins; each has five bytes.
 abbrev pub transmitPlace : ℕ → ℕ
 transmitPlace paddle = 0x70 + 5 * (paddle % paddles)
 
+-- 01, Registers, 3: its link, and a command number for each of four gestures.
 unfoldable pub transmitIn : List ℕ → ℕ → Transmit
 transmitIn all paddle =
     record {
@@ -74,30 +84,35 @@ transmitIn all paddle =
       release = getD all (transmitPlace paddle + 4) 0;
     }
 
--- "Action table 0x7A-0x81: level and rate for top single, top double, bottom single, bottom double."
+-- 01, Registers, 4: where a paddle's two actions begin, each a level with its rate.
 abbrev pub actionPlace : ℕ → ℕ
 actionPlace paddle = 0x7A + 4 * (paddle % paddles)
 
+-- 01, Registers, 4: the action of a paddle's single tap, the first of its two.
 unfoldable pub singleIn : List ℕ → ℕ → Action
 singleIn all paddle = record { level = getD all (actionPlace paddle) 0; rate = getD all (actionPlace paddle + 1) 0 }
 
+-- 01, Registers, 4: the action of its double tap, the second.
 unfoldable pub doubleIn : List ℕ → ℕ → Action
 doubleIn all paddle = record { level = getD all (actionPlace paddle + 2) 0; rate = getD all (actionPlace paddle + 3) 0 }
 
--- "LED options 0x8B. Dimmer options 0x8D."
+-- 01, Registers, 5: the lamp's options.
 abbrev pub lightIn : List ℕ → ℕ
 lightIn all = getD all 0x8B 0
 
+-- 01, Registers, 6: the dimmer's options.
 abbrev pub dimmingIn : List ℕ → ℕ
 dimmingIn all = getD all 0x8D 0
 
--- "Command table 0x90-0xB9: 14 entries of 3 bytes." A number past the fourteenth counts on from the first.
+-- 01, Registers, 7: how many entries the command table has.
 abbrev pub entryCount : ℕ
 entryCount = 14
 
+-- 01, Registers, 7: where the i-th begins; each has three bytes.
 abbrev pub entryPlace : ℕ → ℕ
 entryPlace i = 0x90 + 3 * (i % entryCount)
 
+-- 01, Registers, 7: the i-th entry; a command comes first, and its arguments after it.
 unfoldable pub entryIn : List ℕ → ℕ → Entry
 entryIn all i =
     record {
@@ -106,13 +121,15 @@ entryIn all i =
       second = getD all (entryPlace i + 2) 0;
     }
 
--- "0xF9 level, 0xFA Setup entries, 0xFC restarts"
+-- 01, Registers, 8: where the level is saved.
 abbrev pub savedPlace : ℕ
 savedPlace = 0xF9
 
+-- The level that is saved, in percents.
 abbrev pub savedIn : List ℕ → ℕ
 savedIn all = getD all savedPlace 0
 
+-- 01, Registers, 8: the counter of entries into Setup, and that of restarts.
 unfoldable pub counterPlace : Counter → ℕ
 counterPlace Setups = 0xFA
 counterPlace Restarts = 0xFC

@@ -1,4 +1,4 @@
--- All that may be written, and the one definition that writes it.
+-- All that may be written, and what a write does to the registers and to the password.
 use mathlib.Core.Bool.{Bool, false, _&&_, _||_}
 use mathlib.Core.List.{List, [], _∷_}
 use Prim.Native.Nat.{ℕ, zero, suc, _+_, _-_}
@@ -10,12 +10,11 @@ use Rattle.registers.specs.Places.{size, firstPlace, secondPlace, secret
 use Rattle.registers.specs.declared.write.Write.{Write}
 use Rattle.registers.specs.declared.write.Write.the-variants.{Nothing, Count, Save, Preset, Factory, Values}
 
--- "counters stop at 255"
+-- 01, Registers, 8: a counter goes up by one and does not wrap.
 unfoldable pub oneMore : ℕ → ℕ
 oneMore n = if ltb n 255 then n + 1 else n
 
--- "Entering Factory Default sets 0x00 to 255, 0x01 to 1, 0x02-0x03 to 0x12 0x34, 0x10-0x3F to 0, 0x7A-0x81 to 100 255 100 0 0 255 0 0,
--- 0x8B to 0x09, 0x8D to 0x13, the rest of 0x40-0xBF to 255; other registers stay."
+-- 01, Lamp, start, factory values, 6: the factory values of the action table.
 abbrev pub factoryActions : List ℕ
 factoryActions = 100 ∷ 255 ∷ 100 ∷ 0 ∷ 0 ∷ 255 ∷ 0 ∷ 0 ∷ []
 
@@ -23,6 +22,7 @@ factoryActions = 100 ∷ 255 ∷ 100 ∷ 0 ∷ 0 ∷ 255 ∷ 0 ∷ 0 ∷ []
 abbrev pub between : ℕ → ℕ → ℕ → Bool
 between first place last = leb first place && ltb place (last + 1)
 
+-- 01, Lamp, start, factory values, 6: the factory value of a place, or the old one where it has none.
 unfoldable pub factoryAt : ℕ → ℕ → ℕ
 factoryAt place old =
     if eqb place 0x00 then 255
@@ -36,22 +36,23 @@ factoryAt place old =
     else if between 0x40 place 0xBF then 255
     else old
 
--- One byte of the array. What belongs to 0x02 and 0x03 goes to the password, and past 0xFF there is nothing to write to.
+-- The array with one byte written. What belongs to 0x02 and 0x03 goes to the password, and past 0xFF there is nothing to write to.
 unfoldable pub stored : ℕ → ℕ → List ℕ → List ℕ
 stored place value all = if secret place then all else if ltb place size then set all place value else all
 
--- The factory values of the first n places.
+-- The array with the factory values written in the first n places.
 unfoldable pub factoryBy : ℕ → List ℕ → List ℕ
 factoryBy zero all = all
 factoryBy (suc n) all = stored n (factoryAt n (getD (factoryBy n all) n 0)) (factoryBy n all)
 
--- The first n of the values, from a place on.
+-- The array with the first n of the values written, from a place on.
 unfoldable pub valuesBy : ℕ → ℕ → List ℕ → List ℕ → List ℕ
 valuesBy zero first values all = all
 valuesBy (suc n) first values all = stored (first + n) (getD values n 0) (valuesBy n first values all)
 
--- The registers after a write. "Entering Setup adds one to 0xFA." "Start and restart: one more in 0xFC." "Every 480th tick the percent goes
--- to 0xF9." "Store Preset (percent into its level)." "Entering Factory Default sets .." "Set Registers (first, 1 to 16 values)."
+-- The registers after a write: a counter counts (01, Paddles, 11; Lamp, start, factory values, 5), the percent is saved (Paddles, 16)
+-- or becomes a component's level (Commands, 1, 0x31), Factory Default is entered (Lamp, start, factory values, 6), or registers are
+-- set to values (Commands, 3, 0x11).
 unfoldable pub applied : Write → List ℕ → List ℕ → List ℕ
 applied Nothing values all = all
 applied (Count counter) values all = stored (counterPlace counter) (oneMore (getD all (counterPlace counter) 0)) all
@@ -60,13 +61,14 @@ applied (Preset component percent) values all = stored (levelPlace component) (p
 applied Factory values all = factoryBy size all
 applied (Values first) values all = valuesBy (length values) first values all
 
--- What the same write does to the password's two bytes.
+-- What values from `first` on do to the password's byte at a place.
 unfoldable pub byteOf : ℕ → ℕ → List ℕ → Byte
 byteOf place first values =
     if ltb place first then kept
     else if ltb (place - first) (length values) then put (getD values (place - first) 0)
     else kept
 
+-- What any write does to the password's byte at a place.
 unfoldable pub changeAt : Write → List ℕ → ℕ → Byte
 changeAt Nothing values place = kept
 changeAt (Count counter) values place = kept
@@ -75,10 +77,11 @@ changeAt (Preset component percent) values place = kept
 changeAt Factory values place = put (factoryAt place 0)
 changeAt (Values first) values place = byteOf place first values
 
+-- What a write does to the password.
 unfoldable pub changeOf : Write → List ℕ → Change
 changeOf write values = change (changeAt write values firstPlace) (changeAt write values secondPlace)
 
--- Which places of the 256 bytes a write of so many values sets, the password's among them, and the byte that it sets there.
+-- Which places of the 256 bytes a write of so many values sets, the password's among them.
 unfoldable pub sets : Write → ℕ → ℕ → Bool
 sets Nothing count place = false
 sets (Count counter) count place = eqb place (counterPlace counter)
@@ -87,6 +90,7 @@ sets (Preset component percent) count place = eqb place (levelPlace component)
 sets Factory count place = leb place 0x03 || between 0x10 place 0xBF
 sets (Values first) count place = leb first place && ltb place (first + count)
 
+-- The byte that it sets there, from the one before it.
 unfoldable pub byteSet : Write → List ℕ → ℕ → ℕ → ℕ
 byteSet Nothing values place old = old
 byteSet (Count counter) values place old = oneMore old

@@ -136,14 +136,14 @@ fn second_seen(seen: Seen) -> u8
     }
 }
 
-// Link numbers 1 to 254 are valid.
+// A link is neither 0 nor 255.
 pub fn valid(link: u8) -> bool
     ensures { λ r. ⌜ r ≡ valid link ⌝ }
 {
     0 < link && link < 255
 }
 
-// The first of the sixteen components whose link this is. 0 and 255 are no links.
+// The lowest component with this link.
 pub fn find(all: &[u8; 256], link: u8) -> Found
     ensures { λ r. ⌜ r ≡ found (now (all .entry)) link ⌝ }
 {

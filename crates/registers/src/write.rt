@@ -63,7 +63,7 @@ pub fn password(write: Write, values: &[u8], old: Password) -> Password
     }
 }
 
-// Counters stop at 255.
+// A counter does not wrap.
 fn more(value: u8) -> u8
     ensures { λ r. ⌜ r ≡ oneMore value ⌝ }
 {
