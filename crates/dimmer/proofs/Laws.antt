@@ -20,7 +20,7 @@ use Rattle.dimmer.specs.declared.Dimmer.{Dimmer}
 use Rattle.dimmer.specs.Dimmer.{dimmer, ticksPerStep, wanted, freshDimmer, rateOf, allowed, remembered, headingTo, setTo, stoppedFrom, stopped, TargetWithin, Within, flipTicks, setBlinking, towards, stepped, flipped, faded, flickered, ticked, tickedFrom, distance, walked, gone, flippedBy, tickedByFrom, tickedBy}
 use Rattle.dimmer.specs.Code.{running, EndsAfter}
 
--- A dimmer after no tick is as it was.
+-- No step: the level is as it was.
 walked-none : (level target : Step) → walked 0 level target ≡ level
 unfolding walked
 walked-none level target = ap step (both (λ (n : ℕ). n ≡ level .0) (ltb (level .0) (target .0)) (omega arith) (omega arith))
@@ -32,6 +32,7 @@ ticked-none-from level last (Fading target period left) =
     simp (beats-none, turned-none, walked-none, lt-ltb 0 (max 1 (distance level target)) (omega arith))
 ticked-none-from level last (Blinking period left) = simp (beats-none, turned-none)
 
+-- A dimmer after no tick is as it was.
 pub ticked-none : (d : Dimmer) → tickedBy 0 d ≡ d
 unfolding tickedBy
 ticked-none d = ticked-none-from (d .level) (d .last) (d .motion)
@@ -115,13 +116,14 @@ flicker-more b level last period left = go (eqb left 0) refl
     go true e = simp (e, flip-more)
     go false e = simp e
 
--- A dimmer after one tick more.
+-- One tick more, by what runs.
 ticked-more-from : (n : ℕ) (level last : Step) (motion : Motion) → ticked (tickedByFrom n level last motion) ≡ tickedByFrom (suc n) level last motion
 unfolding ticked tickedFrom tickedByFrom
 ticked-more-from n level last Idle = refl
 ticked-more-from n level last (Fading target period left) = rw (beats-more, ← turned-more) (gone-more level last target period (beatsBy n period left) (metronomeBy n period left))
 ticked-more-from n level last (Blinking period left) = rw (beats-more, ← turned-more) (flicker-more (beatsBy n period left) level last period (metronomeBy n period left))
 
+-- The closed form goes on as a tick does.
 pub ticked-more : (n : ℕ) (d : Dimmer) → ticked (tickedBy n d) ≡ tickedBy (suc n) d
 unfolding tickedBy
 ticked-more n d = ticked-more-from n (d .level) (d .last) (d .motion)

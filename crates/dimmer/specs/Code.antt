@@ -14,8 +14,8 @@ running Idle = false
 running (Fading target period left) = true
 running (Blinking period left) = true
 
--- 01, Levels and fades, 8, on the end of a fade: something runs at every tick before the given one, and from that tick on the dimmer
--- rests at the target.
+-- 01, Levels and fades, 8, on the end of a fade: after fewer ticks than `total` something still runs, and after `total` or more the
+-- dimmer rests at the target.
 pub record EndsAfter (total : ℕ) (d : Dimmer) (target : Step) : Type 0 where
   pub runs : (n : ℕ) → n < total → running (tickedBy n d .motion) ≡ true
   pub rests : (n : ℕ) → total ≤ n → (tickedBy n d .motion ≡ Idle) × (tickedBy n d .level ≡ target)

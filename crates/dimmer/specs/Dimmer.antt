@@ -13,6 +13,7 @@ use Rattle.dimmer.specs.declared.Motion.{Motion}
 use Rattle.dimmer.specs.declared.Motion.the-variants.{Idle, Fading, Blinking}
 use Rattle.dimmer.specs.declared.Dimmer.{Dimmer}
 
+-- A level, the Last On Level, and what runs.
 abbrev pub dimmer : Step → Step → Motion → Dimmer
 dimmer level last motion = record { level = level; last = last; motion = motion }
 
@@ -36,8 +37,8 @@ wanted level last = if ltb 100 level then last else stepOf (percent level)
 unfoldable pub freshDimmer : Step → Dimmer
 freshDimmer level = dimmer level full Idle
 
--- 01, Levels and fades, 4 and 5: a rate past 15, which a missing one is handed on as, is the default one; a load that cannot be
--- dimmed has rate 0 alone.
+-- 01, Levels and fades, 4 and 5: a rate past 15 is the default one, and a missing rate is handed on as 255 (decision 57); a load
+-- that cannot be dimmed has rate 0 alone.
 unfoldable pub rateOf : Options → ℕ → ℕ
 rateOf options asked = if options .capable then (if ltb 15 asked then options .rate else asked) else 0
 
@@ -75,7 +76,8 @@ stepped level last target period =
     if eqb (towards level target .0) (target .0) then dimmer target last Idle
     else dimmer (towards level target) last (Fading target period (less period))
 
--- 01, Levels and fades, 10: a flip comes every four ticks times the value; 0, which a missing one is handed on as, counts as 30.
+-- 01, Levels and fades, 10: a flip comes every four ticks times the value; 0 counts as 30, and a missing value is handed on as 0
+-- (decision 57).
 unfoldable pub flipTicks : ℕ → ℕ
 flipTicks value = 4 * (if eqb value 0 then 30 else value)
 
@@ -87,7 +89,7 @@ flipped level = if eqb (level .0) 0 then full else off
 unfoldable pub setBlinking : Dimmer → ℕ → Dimmer
 setBlinking d value = dimmer full (d .last) (Blinking (flipTicks value) (less (flipTicks value)))
 
--- 01, Levels and fades, 9: a stop remembers the step that a fade or blink has come to; at rest it is idle.
+-- 01, Levels and fades, 9: a stop remembers the step that a fade or blink has come to; at rest it changes nothing.
 unfoldable pub stoppedFrom : Step → Step → Motion → Dimmer
 stoppedFrom level last Idle = dimmer level last Idle
 stoppedFrom level last (Fading target period left) = dimmer level (remembered level last) Idle

@@ -37,7 +37,7 @@ flashTicks = 120
 abbrev pub lamp : ℕ → ℕ → ℕ → Colour → ℕ → Lamp
 lamp version phase blink hue flash = record { version = version; phase = phase; blink = blink; hue = hue; flash = flash }
 
--- A lamp on which nothing runs but the version blinks, for so many ticks more.
+-- A lamp with so many ticks left of the version blinks, and all else clear.
 abbrev pub clearLamp : ℕ → Lamp
 clearLamp version = lamp version 0 0 Black 0
 

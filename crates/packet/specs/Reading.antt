@@ -10,7 +10,7 @@ use Rattle.packet.specs.declared.Frame.the-variants.{Read, Short, Long, 
 use Rattle.packet.specs.Layout.{wholeIn, reservedIn, headerIn, total}
 
 -- 01, Answer numbers, rows 4 to 8, tried in this order (Answer numbers, 1): too short, too long, another length than it says,
--- bytes that do not add up to 0, the spare bit set. Else 01, Packet layout (H), 4: the header.
+-- bytes that do not add up to 0 modulo 256, the spare bit set. Else 01, Packet layout (H), 4: the header.
 unfoldable pub readOf : List ℕ → Frame
 readOf p =
     if ltb (length p) 7 then Short

@@ -102,10 +102,11 @@ essence-released Slave true false hold gap taps = (refl, essence-gap true false 
 essence-released Slave false true hold gap taps = (refl, essence-ended hold gap taps)
 essence-released Slave false false hold gap taps = (refl, essence-gap false false hold gap taps)
 
--- No event tells alike paddles apart: they give the same gestures and stay alike.
+-- What is the same of a paddle and its essence is the same of two paddles alike in all that matters.
 through {ℓ} : {A : Type ℓ} (f : Paddle → A) (p q : Paddle) → f (essence p) ≡ f p → f (essence q) ≡ f q → SameEssence p q → f p ≡ f q
 through f p q a b e = sym a ∙ (ap f e ∙ b)
 
+-- No event tells alike paddles apart: they give the same gestures and stay alike.
 pub alike-same : (p q : Paddle) → SameEssence p q → Same p q
 alike-same p q e =
     let r : (c : Contact) (p : Paddle) → (gestureUp c (essence p) ≡ gestureUp c p) × (essence (released c (essence p)) ≡ essence (released c p)) =

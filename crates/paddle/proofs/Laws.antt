@@ -52,12 +52,13 @@ given {e} {k} {n} g taps at late =
     (λ (h : k ≡ n). simp (at .now h, le-ltb k n (omega arith), eq-eqb k n h))
     (λ (h : n < k). simp (at .early h, ne-eqb k n (omega arith)))
 
--- No tick: the paddle is as it was.
+-- No tick: the taps are as they were.
 unpassed : (w : Wait) (taps : ℕ) → (if past 0 w then 0 else taps) ≡ taps
 unfolding past
 unpassed never taps = refl
 unpassed (after k) taps = rw (le-ltb k 0 (omega arith))
 
+-- No tick: the paddle is as it was.
 pub skip-none : (p : Paddle) → paddleSkip 0 p ≡ p
 unfolding paddleSkip
 skip-none p =
@@ -85,6 +86,7 @@ taps-more false n hold gap taps =
     (λ (h : 0 < taps). simp (ne-eqb taps 0 (omega arith)) (dropped taps (at-close gap n)))
     (λ (h : taps ≤ 0). let z : taps ≡ 0 = omega arith in simp z (either 0 (leb (gap - n) 1)))
 
+-- A run without taps closes without a gesture.
 pub closing-none : (e : Bool) → (if e then closing 0 else Nothing) ≡ Nothing
 unfolding closing
 closing-none e = either Nothing e
@@ -122,6 +124,7 @@ pub gesture-after : (n : ℕ) (p : Paddle) → gesture (paddleSkip n p) ≡ gest
 unfolding paddleSkip gesture gestureAfter completed ends down wait
 gesture-after n p = gesture-more (down p) n (p .hold) (p .gap) (p .taps)
 
+-- The same after n single ticks.
 pub gesture-ticks : (n : ℕ) (p : Paddle) → gesture (paddleTicks n p) ≡ gestureAfter n p
 gesture-ticks n p = ap gesture (sym (skip-ticks n p)) ∙ gesture-after n p
 
@@ -130,7 +133,7 @@ pub quiet : (n : ℕ) (p : Paddle) → due n (wait p) ≡ false → gesture (pad
 unfolding gestureAfter
 quiet n p e = gesture-ticks n p ∙ simp e
 
--- Between two edges a paddle completes at most one gesture.
+-- A wait ends once.
 due-once : (m n : ℕ) (w : Wait) → due m w ≡ true → due n w ≡ true → m ≡ n
 unfolding due
 due-once m n never e f = let z : _≡_ {A = ℕ} 0 1 = cc in omega arith
@@ -140,6 +143,7 @@ owed : (n : ℕ) (p : Paddle) (d : Bool) → due n (wait p) ≡ d → (gesture (
 owed n p true e some = e
 owed n p false e some = absurd (some (quiet n p e))
 
+-- Between two edges a paddle completes at most one gesture.
 pub once : (p : Paddle) → Once p
 once p m n some other =
     due-once m n (wait p) (owed m p (due m (wait p)) refl some) (owed n p (due n (wait p)) refl other)
@@ -149,11 +153,12 @@ pub tick-contacts : (p : Paddle) → (nextPaddle p .local ≡ p .local) × (next
 unfolding nextPaddle
 tick-contacts p = (refl, refl)
 
+-- So do many.
 pub skip-contacts : (n : ℕ) (p : Paddle) → (paddleSkip n p .local ≡ p .local) × (paddleSkip n p .slave ≡ p .slave)
 unfolding paddleSkip
 skip-contacts n p = (refl, refl)
 
--- An edge moves its own contact and no other.
+-- A press edge moves its own contact and no other.
 pub pressed-contacts : (c : Contact) (p : Paddle) → (pressed c p .local ≡ withContact c true p .local) × (pressed c p .slave ≡ withContact c true p .slave)
 unfolding pressed
 pressed-contacts c p = (refl, refl)
@@ -164,6 +169,7 @@ ended-contacts p =
     let Kept : Paddle → Type 0 = λ q. (q .local ≡ p .local) × (q .slave ≡ p .slave) in
     both Kept (eqb (p .hold) 0) (refl, refl) (both Kept (leb (p .hold) 120) (refl, refl) (refl, refl))
 
+-- So does a release edge.
 pub released-contacts : (c : Contact) (p : Paddle) → (released c p .local ≡ withContact c false p .local) × (released c p .slave ≡ withContact c false p .slave)
 unfolding released
 released-contacts c p =

@@ -26,6 +26,7 @@ tapLeft = 120
 abbrev pub mostTaps : ℕ
 mostTaps = 11
 
+-- Two contacts, the ticks left before Hold, those left of the gap, and the taps counted.
 abbrev pub paddle : Bool → Bool → ℕ → ℕ → ℕ → Paddle
 paddle local slave hold gap taps = record { local = local; slave = slave; hold = hold; gap = gap; taps = taps }
 

@@ -19,6 +19,7 @@ pub enum Contact {
     Slave,
 }
 
+// What a paddle completes at an event; `Taps` with how many.
 pub enum Gesture {
     Nothing,
     Taps(u8),

@@ -66,7 +66,7 @@ pub found-nowhere : (all : List ℕ) (link : ℕ) → found all link ≡ Nowhere
 unfolding found
 found-nowhere all link e v j h m = seek-nowhere all link 0 components (rw v at e) j (omega arith) (omega arith) m
 
--- And back: the first with a valid link is found, and where there is none, or the link is not valid, nothing is.
+-- And back: the first with a valid link is found.
 pub first-found : (all : List ℕ) (link i : ℕ) → valid link ≡ true → FirstWith all link i → found all link ≡ At i
 first-found all link i v h = go (found all link) refl
   where
@@ -76,6 +76,7 @@ first-found all link i v h = go (found all link) refl
         three-ways k i (λ l. absurd (h .1 .1 k l (is .1 .0))) (ap At) (λ l. absurd (is .1 .1 i l (h .1 .0)))
     go Nowhere e = absurd (found-nowhere all link e v i (h .0) (h .1 .0))
 
+-- Where no component has the link, or it is not valid, nothing is found.
 pub none-found : (all : List ℕ) (link : ℕ) → (valid link ≡ true → NoneWith all link) → found all link ≡ Nowhere
 none-found all link h = go (found all link) refl
   where

@@ -48,10 +48,11 @@ dead-apart (a ∷ b ∷ []) h = refl
 dead-apart (a ∷ b ∷ c ∷ []) h = rw (h .0)
 dead-apart (a ∷ b ∷ c ∷ d ∷ rest) h = rw (h .0, h .1)
 
--- Put together and taken apart, the registers are as they were, and so is the password.
+-- Put together and taken apart, the registers are as they were.
 pub registers-back : (all : List ℕ) (w : Password) → Dead all → apart (imageOf all w) ≡ all
 registers-back all w h = back-apart all w ∙ dead-apart all h
 
+-- So is the password.
 pub password-back : (all : List ℕ) (w : Password) → length all ≡ size → passwordIn (imageOf all w) ≡ w
 unfolding imageOf passwordIn
 password-back [] w h = absurd (omega arith)
@@ -75,25 +76,26 @@ not-secret k h =
     let parts = neither (eqb k firstPlace) (eqb k secondPlace) h in
     (eqb-false k firstPlace (parts .0), eqb-false k secondPlace (parts .1))
 
--- No place but the password's two depends on the password: every named place reads the same in an image, in the registers
--- taken from it, and in the image put together again.
+-- No place but the password's two depends on the password: every other reads the same in an image and in the registers taken from it,
 pub apart-other : (image : List ℕ) (k : ℕ) → secret k ≡ false → getD (apart image) k 0 ≡ getD image k 0
 unfolding apart
 apart-other image k h =
     let ne = not-secret k h in
     getD-set-other (set image firstPlace 0) secondPlace k 0 0 (ne .1) ∙ getD-set-other image firstPlace k 0 0 (ne .0)
 
+-- and in the image put together again.
 pub image-other : (all : List ℕ) (w : Password) (k : ℕ) → secret k ≡ false → getD (imageOf all w) k 0 ≡ getD all k 0
 unfolding imageOf
 image-other all w k h =
     let ne = not-secret k h in
     getD-set-other (set all firstPlace (w .0)) secondPlace k (w .1) 0 (ne .1) ∙ getD-set-other all firstPlace k (w .0) 0 (ne .0)
 
--- Lengths.
+-- Taking the password out keeps the length.
 pub apart-length : (image : List ℕ) → length (apart image) ≡ length image
 unfolding apart
 apart-length image = simp length-set
 
+-- So does putting it back.
 pub image-length : (all : List ℕ) (w : Password) → length (imageOf all w) ≡ length all
 unfolding imageOf
 image-length all w = simp length-set
@@ -121,11 +123,12 @@ alike-apart a b same h =
 pub took-one-outcome : {image before : List ℕ} {a b : Taken} {x y : List ℕ} → Took image before a x → Took image before b y → (a ≡ b) × (x ≡ y)
 took-one-outcome s t = (s .answered ∙ sym (t .answered), s .registers ∙ sym (t .registers))
 
--- An image of 256 bytes is taken; any other is refused, and the registers keep their bytes.
+-- An image of 256 bytes is taken.
 pub image-taken : (image all : List ℕ) → length image ≡ size → (takenOf image ≡ Apart (passwordIn image)) × (afterTaking image all ≡ apart image)
 unfolding takenOf afterTaking
 image-taken image all h = (rw (eq-eqb (length image) size h), rw (eq-eqb (length image) size h))
 
+-- Any other is refused, and the registers keep their bytes.
 pub image-refused : (image all : List ℕ) → length image ≢ size → (takenOf image ≡ Refused) × (afterTaking image all ≡ all)
 unfolding takenOf afterTaking
 image-refused image all h = (rw (ne-eqb (length image) size h), rw (ne-eqb (length image) size h))
@@ -145,21 +148,23 @@ taken-exactly = record {
         go true e = let l = eqb-true _ _ e in whole l (ap numberTaken (image-taken image [] l .0))
         go false e = let n = eqb-false _ _ e in other n (ap numberTaken (image-refused image [] n .0))
 
--- Taken or refused, 256 registers stay 256, and dead bytes stay 0.
+-- Taken or refused, 256 registers stay 256.
 pub taking-length : (image all : List ℕ) → length all ≡ size → length (afterTaking image all) ≡ size
 unfolding afterTaking
 taking-length image all h =
     cases (λ (l : List ℕ). length l ≡ size) (eqb (length image) size) (λ e. apart-length image ∙ eqb-true (length image) size e) (λ _. h)
 
+-- And dead bytes stay 0.
 pub taking-dead : (image all : List ℕ) → Dead all → Dead (afterTaking image all)
 unfolding afterTaking
 taking-dead image all h = both Dead (eqb (length image) size) (apart-dead image) h
 
--- A register read without the password is 0 at the password's places; any other is the array's byte.
+-- A register read without the password is 0 at the password's places.
 pub read-hidden : (all : List ℕ) (k : ℕ) → secret k ≡ true → readAt all Hidden k ≡ 0
 unfolding readAt firstSeen secondSeen
 read-hidden all k h = by-secret k (λ e. rw e) (λ e. rw e) (λ e. absurd (true≢false (sym h ∙ e)))
 
+-- At any other place it is the array's byte, with the password or without.
 pub read-plain : (all : List ℕ) (seen : Seen) (k : ℕ) → secret k ≡ false → k < size → readAt all seen k ≡ getD all k 0
 unfolding readAt
 read-plain all seen k h within =
@@ -186,12 +191,13 @@ read-shown all w k h =
     simp (ne-eqb k firstPlace (ne .0), ne-eqb k secondPlace (ne .1), le-ltb k size over)
     (sym (List·getD-eq-default (imageOf all w) 0 (rw (image-length all w) (omega arith))))))
 
--- A range has the length that is asked for, and its i-th byte is the register that many places on: the mask goes by the place.
+-- A range has as many bytes as are asked for.
 pub range-length : (all : List ℕ) (seen : Seen) (first n : ℕ) → length (rangeOf all seen first n) ≡ n
 unfolding rangeOf
 range-length all seen first zero = refl
 range-length all seen first (suc n) = ap suc (range-length all seen (first + 1) n)
 
+-- Its i-th byte is the register that many places on: the mask goes by the place.
 pub range-at : (all : List ℕ) (seen : Seen) (first n i : ℕ) → i < n → getD (rangeOf all seen first n) i 0 ≡ readAt all seen (first + i)
 unfolding rangeOf
 range-at all seen first zero i h = absurd (omega arith)

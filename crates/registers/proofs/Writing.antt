@@ -96,11 +96,12 @@ pub write-length : (write : Write) (values all : List ℕ) → length (applied w
 write-length write values all =
     write-keeps (λ (l : List ℕ). length l ≡ length all) (λ place value l e. stored-length place value l ∙ e) write values all refl
 
--- No write reaches the array's bytes at 0x02 and 0x03, so they stay 0.
+-- No write reaches the array's bytes at 0x02 and 0x03.
 pub write-secret : (write : Write) (values all : List ℕ) (k : ℕ) → secret k ≡ true → getD (applied write values all) k 0 ≡ getD all k 0
 write-secret write values all k h =
     write-keeps (λ (l : List ℕ). getD l k 0 ≡ getD all k 0) (λ place value l e. stored-secret place value l k h ∙ e) write values all refl
 
+-- So they stay 0.
 pub write-dead : (write : Write) (values all : List ℕ) → Dead all → Dead (applied write values all)
 write-dead write values all h =
     (write-secret write values all firstPlace refl ∙ h .0, write-secret write values all secondPlace refl ∙ h .1)
@@ -250,17 +251,19 @@ touched write values all k len under h =
     (λ e. absurd (true≢false (sym (rw e at h))))
     (λ e. write-at write values all k len under e ∙ rw (simp e at h))
 
--- So a counter then holds one more, 0xF9 the saved percent, and the component's level its preset.
+-- So a counter then holds one more.
 pub counter-after : (counter : Counter) (values all : List ℕ) → length all ≡ size
     → getD (applied (Count counter) values all) (counterPlace counter) 0 ≡ oneMore (getD all (counterPlace counter) 0)
 unfolding applied
 counter-after counter values all len =
     stored-here (counterPlace counter) (oneMore (getD all (counterPlace counter) 0)) all len (counter-within counter) (counter-plain counter)
 
+-- 0xF9 holds the saved percent.
 pub saved-after : (percent : Percent) (values all : List ℕ) → length all ≡ size → savedIn (applied (Save percent) values all) ≡ percent .0
 unfolding applied
 saved-after percent values all len = stored-here savedPlace (percent .0) all len (omega arith) refl
 
+-- The component's level is its preset.
 pub preset-after : (component : ℕ) (percent : Percent) (values all : List ℕ) → length all ≡ size
     → componentIn (applied (Preset component percent) values all) component .level ≡ percent .0
 unfolding applied componentIn
@@ -318,7 +321,7 @@ image-after write values all w k len h =
     ∙ write-at write values all k len h e
     ∙ sym (ap (byteAfter write values k) (image-other all w k e)))
 
--- A write that sets neither 0x02 nor 0x03 leaves the password alone: only the factory values and values over these places do.
+-- A write that does not set a place of the password's keeps the byte there.
 change-kept : (write : Write) (values : List ℕ) (k : ℕ) → secret k ≡ true → sets write (length values) k ≡ false → changeAt write values k ≡ kept
 unfolding changeAt byteOf sets
 change-kept Nothing values k h e = refl
@@ -334,6 +337,7 @@ change-kept (Values first) values k h e =
     let past : first + length values ≤ k = ltb-false k (first + length values) (simp (le-leb first k over) at e) in
     simp (le-ltb k first over, le-ltb (k - first) (length values) (omega arith)))
 
+-- A write that sets neither 0x02 nor 0x03 leaves the password alone.
 pub password-kept : (write : Write) (values : List ℕ) → sets write (length values) firstPlace ≡ false → sets write (length values) secondPlace ≡ false
     → changeOf write values ≡ nothing
 unfolding changeOf

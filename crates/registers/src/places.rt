@@ -57,6 +57,7 @@ pub struct Entry {
     pub second: u8,
 }
 
+// Entries into Setup, and restarts.
 pub enum Counter {
     Setups,
     Restarts,

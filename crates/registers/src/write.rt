@@ -26,6 +26,7 @@ pub enum Write {
 // The factory values of the action table.
 const ACTIONS: [u8; 8] = [100, 255, 100, 0, 0, 255, 0, 0];
 
+// The array's part of a write; the password's two places are left alone.
 pub fn apply(write: Write, values: &[u8], all: &mut [u8; 256])
     ensures { λ r. ⌜ now (all .exit) ≡ applied write (now (values .entry)) (now (all .entry)) ⌝ }
 {

@@ -6,10 +6,11 @@ use Rattle.units.specs.declared.Percent.{Percent}
 abbrev pub step : ℕ → Step
 step n = record { 0 = n }
 
--- The top of the steps, and their bottom.
+-- The top of the steps.
 abbrev pub full : Step
 full = step 200
 
+-- The bottom of the steps.
 abbrev pub off : Step
 off = step 0
 

@@ -2,6 +2,7 @@
 ghost use mathlib.Core.Path.{_≡_};
 ghost use Rattle.vault.specs.Vault.{matches};
 
+// `Factory` is Factory Default.
 pub enum Mode {
     Normal,
     Setup,
