@@ -70,7 +70,7 @@ towards level target =
     else if ltb (target .0) (level .0) then step (level .0 - 1)
     else level
 
--- The dimmer after that step: with the one that reaches the target the fade is over.
+-- The dimmer after a fade's next step: with the one that reaches the target the fade is over.
 unfoldable pub stepped : Step → Step → Step → ℕ → Dimmer
 stepped level last target period =
     if eqb (towards level target .0) (target .0) then dimmer target last Idle
@@ -95,7 +95,7 @@ stoppedFrom level last Idle = dimmer level last Idle
 stoppedFrom level last (Fading target period left) = dimmer level (remembered level last) Idle
 stoppedFrom level last (Blinking period left) = dimmer level (remembered level last) Idle
 
--- The same of a whole dimmer.
+-- A stop of the whole dimmer.
 unfoldable pub stopped : Dimmer → Dimmer
 stopped d = stoppedFrom (d .level) (d .last) (d .motion)
 

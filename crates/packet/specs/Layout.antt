@@ -76,7 +76,7 @@ headBytes h size rest =
     ∷ h .source
     ∷ rest
 
--- 01, Packet layout (H), 3: the whole packet is those five bytes, the message, and the checksum over both.
+-- 01, Packet layout (H), 3: the whole packet is the five bytes of the header, the message, and the checksum over both.
 unfoldable pub packed : Header → List ℕ → List ℕ
 packed h message =
     headBytes h (length message) message ++ balance (total (headBytes h (length message) message) % 256) ∷ []

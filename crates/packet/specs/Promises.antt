@@ -20,15 +20,15 @@ use Rattle.packet.specs.Writing.{writtenOf, numberOfWritten, Wrote}
 abbrev pub Sized : List ℕ → Type 0
 Sized p = (7 ≤ length p) × (length p ≤ 24)
 
--- It passes 4 to 6.
+-- The packet passes 4 to 6.
 abbrev pub Counted : List ℕ → Type 0
 Counted p = Sized p × (wholeIn (getD p 0 0) ≡ length p)
 
--- It passes 4 to 7.
+-- The packet passes 4 to 7.
 abbrev pub Summed : List ℕ → Type 0
 Summed p = Counted p × (total p % 256 ≡ 0)
 
--- It passes 4 to 8, and this is its header.
+-- The packet passes 4 to 8, and this is its header.
 pub record Sound (p : List ℕ) (h : Header) : Type 0 where
   pub least : 7 ≤ length p
   pub most : length p ≤ 24
@@ -46,7 +46,7 @@ Reads Sum p = Counted p × (total p % 256 ≡ 0 → ⊥)
 Reads Reserved p = Summed p × (reservedIn (getD p 1 0) ≡ 0 → ⊥)
 Reads (Read h) p = Sound p h
 
--- The same rows by their numbers.
+-- The reader's rows by their numbers.
 pub data ReadRow (p : List ℕ) : ℕ → Type 0 where
   done : (h : Header) → Reads (Read h) p → ReadRow p 0
   too-short : Reads Short p → ReadRow p 4
@@ -75,7 +75,7 @@ GivenWritten written.Field h size room = Ranges h size → ⊥
 GivenWritten written.Short h size room = Ranges h size × (room < size + 6)
 GivenWritten (written.Packet n) h size room = Ranges h size × ((size + 6 ≤ room) × (n ≡ size + 6))
 
--- The same rows by their numbers.
+-- The writer's rows by their numbers.
 pub data WrittenRow (h : Header) (size room : ℕ) : ℕ → Type 0 where
   whole : GivenWritten (written.Packet (size + 6)) h size room → WrittenRow h size room 0
   out-of-range : GivenWritten written.Field h size room → WrittenRow h size room 15

@@ -40,7 +40,7 @@ Once p = (m n : ℕ) → (gesture (paddleTicks m p) ≡ Nothing → ⊥) → (ge
 abbrev pub pressFor : ℕ → Contact → Paddle → Paddle
 pressFor n contact p = released contact (paddleTicks n (pressed contact p))
 
--- The gesture of that release.
+-- The gesture of the release that ends a press of n ticks.
 abbrev pub gestureFor : ℕ → Contact → Paddle → Gesture
 gestureFor n contact p = gestureUp contact (paddleTicks n (pressed contact p))
 

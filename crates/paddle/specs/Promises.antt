@@ -33,7 +33,7 @@ unfoldable pub paddleTicks : ℕ → Paddle → Paddle
 paddleTicks zero p = p
 paddleTicks (suc n) p = nextPaddle (paddleTicks n p)
 
--- The same in closed form: the tick that ends the wait takes the taps with it.
+-- The paddle after n ticks, in closed form: the tick that ends the wait takes the taps with it.
 unfoldable pub paddleSkip : ℕ → Paddle → Paddle
 paddleSkip n p = paddle (p .local) (p .slave) (if down p then lessBy n (p .hold) else p .hold) (lessBy n (p .gap)) (if past n (wait p) then 0 else p .taps)
 

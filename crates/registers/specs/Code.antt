@@ -19,7 +19,7 @@ use mathlib.Core.Bool.{Bool, false}
 unfoldable pub takenOf : List ℕ → Taken
 takenOf image = if eqb (length image) size then Apart (passwordIn image) else Refused
 
--- The registers after that: those of the image, or, refused, every byte as it was (decision 54).
+-- The registers once an image is offered: those of the image, or, refused, every byte as it was (decision 54).
 unfoldable pub afterTaking : List ℕ → List ℕ → List ℕ
 afterTaking image all = if eqb (length image) size then apart image else all
 

@@ -48,7 +48,7 @@ components = 16
 abbrev pub linkPlace : ℕ → ℕ
 linkPlace i = 0x40 + 3 * (i % components)
 
--- 01, Registers, 2: its level comes next.
+-- 01, Registers, 2: where a receive component has its level, next to the link.
 abbrev pub levelPlace : ℕ → ℕ
 levelPlace i = linkPlace i + 1
 
@@ -73,7 +73,7 @@ paddles = 2
 abbrev pub transmitPlace : ℕ → ℕ
 transmitPlace paddle = 0x70 + 5 * (paddle % paddles)
 
--- 01, Registers, 3: its link, and a command number for each of four gestures.
+-- 01, Registers, 3: a paddle's transmit component: its link, and a command number for each of four gestures.
 unfoldable pub transmitIn : List ℕ → ℕ → Transmit
 transmitIn all paddle =
     record {
@@ -92,7 +92,7 @@ actionPlace paddle = 0x7A + 4 * (paddle % paddles)
 unfoldable pub singleIn : List ℕ → ℕ → Action
 singleIn all paddle = record { level = getD all (actionPlace paddle) 0; rate = getD all (actionPlace paddle + 1) 0 }
 
--- 01, Registers, 4: the action of its double tap, the second.
+-- 01, Registers, 4: the action of a paddle's double tap, the second of its two.
 unfoldable pub doubleIn : List ℕ → ℕ → Action
 doubleIn all paddle = record { level = getD all (actionPlace paddle + 2) 0; rate = getD all (actionPlace paddle + 3) 0 }
 
@@ -108,11 +108,11 @@ dimmingIn all = getD all 0x8D 0
 abbrev pub entryCount : ℕ
 entryCount = 14
 
--- 01, Registers, 7: where the i-th begins; each has three bytes.
+-- 01, Registers, 7: where the i-th entry of the command table begins; each has three bytes.
 abbrev pub entryPlace : ℕ → ℕ
 entryPlace i = 0x90 + 3 * (i % entryCount)
 
--- 01, Registers, 7: the i-th entry; a command comes first, and its arguments after it.
+-- 01, Registers, 7: the i-th entry of the command table; a command comes first, and its arguments after it.
 unfoldable pub entryIn : List ℕ → ℕ → Entry
 entryIn all i =
     record {

@@ -42,7 +42,7 @@ unfoldable pub firstSeen : Seen → ℕ
 firstSeen Hidden = 0
 firstSeen (Shown w) = w .0
 
--- 01, Commands, 9: the same of its second byte.
+-- 01, Commands, 9: what is seen of the password's second byte: 0 where it is hidden.
 unfoldable pub secondSeen : Seen → ℕ
 secondSeen Hidden = 0
 secondSeen (Shown w) = w .1

@@ -51,8 +51,8 @@ valuesBy zero first values all = all
 valuesBy (suc n) first values all = stored (first + n) (getD values n 0) (valuesBy n first values all)
 
 -- The registers after a write: a counter counts (01, Paddles, 11; Lamp, start, factory values, 5), the percent is saved (Paddles, 16)
--- or becomes a component's level (Commands, 1, 0x31), Factory Default is entered (Lamp, start, factory values, 6), or registers are
--- set to values (Commands, 3, 0x11).
+-- or becomes a component's level (Commands, 1, 0x31), the factory values are put in (Lamp, start, factory values, 6), or registers
+-- are set to values (Commands, 3, 0x11).
 unfoldable pub applied : Write → List ℕ → List ℕ → List ℕ
 applied Nothing values all = all
 applied (Count counter) values all = stored (counterPlace counter) (oneMore (getD all (counterPlace counter) 0)) all
@@ -90,7 +90,7 @@ sets (Preset component percent) count place = eqb place (levelPlace component)
 sets Factory count place = leb place 0x03 || between 0x10 place 0xBF
 sets (Values first) count place = leb first place && ltb place (first + count)
 
--- The byte that it sets there, from the one before it.
+-- The byte that a write sets at a place, from the one before it.
 unfoldable pub byteSet : Write → List ℕ → ℕ → ℕ → ℕ
 byteSet Nothing values place old = old
 byteSet (Count counter) values place old = oneMore old

@@ -12,7 +12,7 @@ less left = left - 1
 abbrev pub beats : ℕ → Bool
 beats left = eqb left 0
 
--- A metronome one tick later. Where it beats it starts over, that tick taken off the period; a period of 0 is one of 1.
+-- A metronome one tick later. Where it beats it starts over, that tick taken off the period; a period of 0 is one of 1 (decision 41).
 unfoldable pub metronome : ℕ → ℕ → ℕ
 metronome period left = if beats left then less period else less left
 

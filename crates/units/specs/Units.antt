@@ -17,10 +17,10 @@ off = step 0
 abbrev pub percent : ℕ → Percent
 percent n = record { 0 = n }
 
--- A percent is two steps; one above 100 counts as 100 (decision 40).
+-- 01, Levels and fades, 1: a percent is two steps. One above 100 counts as 100 (decision 40).
 unfoldable pub stepOf : Percent → Step
 stepOf p = step (2 * min 100 (p .0))
 
--- Half the steps, half a percent dropped; a step above 200 counts as 200 (decision 40).
+-- 01, Levels and fades, 1: half the steps, and half a percent drops. A step above 200 counts as 200 (decision 40).
 unfoldable pub percentOf : Step → Percent
 percentOf s = percent (min 200 (s .0) / 2)

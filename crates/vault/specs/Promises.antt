@@ -32,7 +32,7 @@ SecretBetweenTwo P = (s t : Switch (P .Plain)) (es : List (P .Event)) → s .pla
     × (run (machine P) s es .plain ≡ run (machine P) t es .plain)
     × StaysOut (alone P) t es
 
--- The same of a site: a password that none of the guesses matched gives the very same transcript, and would not have opened Setup either.
+-- A site outside Setup: a password that none of the guesses matched gives the very same transcript, and would not have opened Setup either.
 abbrev pub SecretFromGuesses : Site → Type 0
 SecretFromGuesses S = (s : S .machine .State) (w : Password) (es : List (S .machine .Event)) → S .Outside s → StaysOut S s es → Untried w (guesses S s es)
     → (transcript (S .machine) s es ≡ transcript (S .machine) (S .given w s) es)
@@ -51,7 +51,7 @@ abbrev pub RulesOutGuesses : Site → Type 0
 RulesOutGuesses S = (s : S .machine .State) (es : List (S .machine .Event)) → S .Outside s → StaysOut S s es
     → Left (guesses S s es) (λ w. transcript (S .machine) s es ≡ transcript (S .machine) (S .given w s) es) (without (guesses S s es) passwords)
 
--- The same of a guest who chooses each event from all that he has seen, for as many rounds as he likes.
+-- Demand 3, its sentence 3, for a guest who chooses each event from all that he has seen, for as many rounds as he likes.
 abbrev pub GuestRulesOutGuesses : Site → Type 0
 GuestRulesOutGuesses S = (guest : Guest (S .machine)) (s : S .machine .State) (n : ℕ) → S .Outside s → StaysOut S s (visit (S .machine) guest s [] n)
     → Left (guesses S s (visit (S .machine) guest s [] n)) (λ w. seen (S .machine) guest s n ≡ seen (S .machine) guest (S .given w s) n)
