@@ -1,5 +1,5 @@
 /* Counts the instructions of wrong guesses of the password, one call at a time: the processor traps after each instruction from
- * the first of melszondru_receive to its return, so that the library's own work is counted and nothing else. Each guess is a Start
+ * the first of melszondru_parts_receive to its return, so that the library's own work is counted and nothing else. Each guess is a Start
  * Setup packet that must be answered 14 and leave the switch and the buffer as they were. Prints a line for each switch and kind
  * of guess. Answers 0 only where all guesses at one switch, whatever its password, took the same instructions in the same order. */
 #define _GNU_SOURCE
@@ -27,7 +27,7 @@ static void stepped(int number, siginfo_t *info, void *context)
     if (state == IDLE) {
         state = ARMED;
         now[REG_EFL] |= TRAP_FLAG;
-    } else if (state == ARMED && now[REG_RIP] == (greg_t)melszondru_receive) {
+    } else if (state == ARMED && now[REG_RIP] == (greg_t)melszondru_parts_receive) {
         state = INSIDE;
         steps = 0;
         path = 0;
@@ -48,7 +48,7 @@ static uint8_t packet[9], out[MELSZONDRU_ROOM];
 
 static struct melszondru_answer receive(void)
 {
-    return melszondru_receive(held.counters, held.numbers, held.registers, packet, sizeof packet, out, sizeof out);
+    return melszondru_parts_receive(held.counters, held.numbers, held.registers, packet, sizeof packet, out, sizeof out);
 }
 
 static struct melszondru_answer measured(void)
@@ -92,13 +92,13 @@ static void make(int which, const uint8_t password[2])
     memcpy(image + 0x02, password, 2);
     image[0x8D] |= 0x13;
     image[0xF9] |= 40;
-    well = melszondru_start(image, sizeof image, held.counters, held.numbers, held.registers).number == 0;
+    well = melszondru_parts_start(image, sizeof image, held.counters, held.numbers, held.registers).number == 0;
     if (which == FADES) {
         write_packet(0x22, 90, 5);
         well &= receive().number == 0;
-        well &= melszondru_press(held.counters, held.numbers, held.registers, 0, out, sizeof out).number == 0;
+        well &= melszondru_parts_press(held.counters, held.numbers, held.registers, 0, out, sizeof out).number == 0;
         for (int i = 0; i < 100; i++)
-            well &= melszondru_tick(held.counters, held.numbers, held.registers, out, sizeof out).number == 0;
+            well &= melszondru_parts_tick(held.counters, held.numbers, held.registers, out, sizeof out).number == 0;
     }
     if (which == BLINKS) {
         write_packet(0x03, 0, 0);

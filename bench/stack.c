@@ -11,8 +11,8 @@ enum { STACK = 65536, PAINT = 0xA5 };
 
 enum function { EMPTY, START, PRESS, RELEASE, TICK, RECEIVE, RESTART, IMAGE, FUNCTIONS };
 
-static const char *const NAMES[FUNCTIONS] = {"",      "melszondru_start",   "melszondru_press",   "melszondru_release",
-                                             "melszondru_tick", "melszondru_receive", "melszondru_restart", "melszondru_image"};
+static const char *const NAMES[FUNCTIONS] = {"",      "melszondru_parts_start",   "melszondru_parts_press",   "melszondru_parts_release",
+                                             "melszondru_parts_tick", "melszondru_parts_receive", "melszondru_parts_restart", "melszondru_parts_image"};
 
 static struct melszondru held;
 static struct melszondru_answer answer;
@@ -21,13 +21,13 @@ static const uint8_t *packet;
 static size_t length;
 
 static void empty(void) {}
-static void starts(void) { answer = melszondru_start(image, 256, held.counters, held.numbers, held.registers); }
-static void presses(void) { answer = melszondru_press(held.counters, held.numbers, held.registers, contact, out, 48); }
-static void releases(void) { answer = melszondru_release(held.counters, held.numbers, held.registers, contact, out, 48); }
-static void ticks(void) { answer = melszondru_tick(held.counters, held.numbers, held.registers, out, 48); }
-static void receives(void) { answer = melszondru_receive(held.counters, held.numbers, held.registers, packet, length, out, 48); }
-static void restarts(void) { answer = melszondru_restart(held.counters, held.numbers, held.registers, out, 48); }
-static void images(void) { melszondru_image(held.numbers, held.registers, image); }
+static void starts(void) { answer = melszondru_parts_start(image, 256, held.counters, held.numbers, held.registers); }
+static void presses(void) { answer = melszondru_parts_press(held.counters, held.numbers, held.registers, contact, out, 48); }
+static void releases(void) { answer = melszondru_parts_release(held.counters, held.numbers, held.registers, contact, out, 48); }
+static void ticks(void) { answer = melszondru_parts_tick(held.counters, held.numbers, held.registers, out, 48); }
+static void receives(void) { answer = melszondru_parts_receive(held.counters, held.numbers, held.registers, packet, length, out, 48); }
+static void restarts(void) { answer = melszondru_parts_restart(held.counters, held.numbers, held.registers, out, 48); }
+static void images(void) { melszondru_parts_image(held.numbers, held.registers, image); }
 
 static void (*const CALLS[FUNCTIONS])(void) = {empty, starts, presses, releases, ticks, receives, restarts, images};
 

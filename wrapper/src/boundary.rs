@@ -19,14 +19,14 @@ pub type Numbers = [u8; 14];
 pub type Registers = [u8; 256];
 
 extern "C" {
-    pub fn melszondru_start(
+    pub fn melszondru_parts_start(
         image: *const u8,
         length: usize,
         counters: &mut Counters,
         numbers: &mut Numbers,
         registers: &mut Registers,
     ) -> Answer;
-    pub fn melszondru_press(
+    pub fn melszondru_parts_press(
         counters: &mut Counters,
         numbers: &mut Numbers,
         registers: &mut Registers,
@@ -34,7 +34,7 @@ extern "C" {
         out: *mut u8,
         room: usize,
     ) -> Answer;
-    pub fn melszondru_release(
+    pub fn melszondru_parts_release(
         counters: &mut Counters,
         numbers: &mut Numbers,
         registers: &mut Registers,
@@ -42,14 +42,14 @@ extern "C" {
         out: *mut u8,
         room: usize,
     ) -> Answer;
-    pub fn melszondru_tick(
+    pub fn melszondru_parts_tick(
         counters: &mut Counters,
         numbers: &mut Numbers,
         registers: &mut Registers,
         out: *mut u8,
         room: usize,
     ) -> Answer;
-    pub fn melszondru_receive(
+    pub fn melszondru_parts_receive(
         counters: &mut Counters,
         numbers: &mut Numbers,
         registers: &mut Registers,
@@ -58,14 +58,14 @@ extern "C" {
         out: *mut u8,
         room: usize,
     ) -> Answer;
-    pub fn melszondru_restart(
+    pub fn melszondru_parts_restart(
         counters: &mut Counters,
         numbers: &mut Numbers,
         registers: &mut Registers,
         out: *mut u8,
         room: usize,
     ) -> Answer;
-    pub fn melszondru_image(numbers: &Numbers, registers: &Registers, image: &mut Registers);
+    pub fn melszondru_parts_image(numbers: &Numbers, registers: &Registers, image: &mut Registers);
 }
 
 #[cfg(test)]
@@ -86,7 +86,7 @@ mod tests {
 
     fn start(image: &[u8], (counters, numbers, registers): &mut Arrays) -> Answer {
         // SAFETY: a pointer and its length are those of one slice, and no two borrows overlap.
-        unsafe { melszondru_start(image.as_ptr(), image.len(), counters, numbers, registers) }
+        unsafe { melszondru_parts_start(image.as_ptr(), image.len(), counters, numbers, registers) }
     }
 
     fn running() -> Arrays {
@@ -97,7 +97,7 @@ mod tests {
         let mut out = [0; 48];
         // SAFETY: as above.
         let answer = unsafe {
-            melszondru_receive(
+            melszondru_parts_receive(
                 counters,
                 numbers,
                 registers,

@@ -27,7 +27,7 @@ impl Switch {
             registers: [0; 256],
         };
         let answer = unsafe {
-            boundary::melszondru_start(
+            boundary::melszondru_parts_start(
                 image.as_ptr(),
                 image.len(),
                 &mut switch.counters,
@@ -44,7 +44,7 @@ impl Switch {
     #[inline]
     pub fn press(&mut self, contact: u8, out: &mut [u8]) -> Answer {
         unsafe {
-            boundary::melszondru_press(
+            boundary::melszondru_parts_press(
                 &mut self.counters,
                 &mut self.numbers,
                 &mut self.registers,
@@ -58,7 +58,7 @@ impl Switch {
     #[inline]
     pub fn release(&mut self, contact: u8, out: &mut [u8]) -> Answer {
         unsafe {
-            boundary::melszondru_release(
+            boundary::melszondru_parts_release(
                 &mut self.counters,
                 &mut self.numbers,
                 &mut self.registers,
@@ -72,7 +72,7 @@ impl Switch {
     #[inline]
     pub fn tick(&mut self, out: &mut [u8]) -> Answer {
         unsafe {
-            boundary::melszondru_tick(
+            boundary::melszondru_parts_tick(
                 &mut self.counters,
                 &mut self.numbers,
                 &mut self.registers,
@@ -85,7 +85,7 @@ impl Switch {
     #[inline]
     pub fn receive(&mut self, packet: &[u8], out: &mut [u8]) -> Answer {
         unsafe {
-            boundary::melszondru_receive(
+            boundary::melszondru_parts_receive(
                 &mut self.counters,
                 &mut self.numbers,
                 &mut self.registers,
@@ -100,7 +100,7 @@ impl Switch {
     #[inline]
     pub fn restart(&mut self, out: &mut [u8]) -> Answer {
         unsafe {
-            boundary::melszondru_restart(
+            boundary::melszondru_parts_restart(
                 &mut self.counters,
                 &mut self.numbers,
                 &mut self.registers,
@@ -113,7 +113,7 @@ impl Switch {
     /// The 256 registers for the owner to save, with the password among them.
     pub fn image(&self) -> [u8; 256] {
         let mut image = [0; 256];
-        unsafe { boundary::melszondru_image(&self.numbers, &self.registers, &mut image) };
+        unsafe { boundary::melszondru_parts_image(&self.numbers, &self.registers, &mut image) };
         image
     }
 }

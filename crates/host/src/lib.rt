@@ -55,7 +55,7 @@ pub struct Figures {
 // Refused, it leaves every array as it was. Accepted, it clears the counters and numbers first, so that of a switch that stood
 // there nothing is left.
 #[no_mangle]
-pub extern "C" fn melszondru_start(
+pub extern "C" fn melszondru_parts_start(
     image: &[u8],
     counters: &mut [u16; 11],
     numbers: &mut [u8; 14],
@@ -75,7 +75,7 @@ pub extern "C" fn melszondru_start(
 // A press that is answered 0 changes its paddle alone. (The answer of the whole way goes by a local: returned as it comes, it would
 // be written in bytes and read back in one piece.)
 #[no_mangle]
-pub extern "C" fn melszondru_press(
+pub extern "C" fn melszondru_parts_press(
     counters: &mut [u16; 11],
     numbers: &mut [u8; 14],
     all: &mut [u8; 256],
@@ -103,7 +103,7 @@ pub extern "C" fn melszondru_press(
 
 // So does a release that completes no gesture.
 #[no_mangle]
-pub extern "C" fn melszondru_release(
+pub extern "C" fn melszondru_parts_release(
     counters: &mut [u16; 11],
     numbers: &mut [u8; 14],
     all: &mut [u8; 256],
@@ -137,7 +137,7 @@ pub extern "C" fn melszondru_release(
 
 // A tick that completes no gesture and saves nothing runs its counters, and a motion.
 #[no_mangle]
-pub extern "C" fn melszondru_tick(
+pub extern "C" fn melszondru_parts_tick(
     counters: &mut [u16; 11],
     numbers: &mut [u8; 14],
     all: &mut [u8; 256],
@@ -172,7 +172,7 @@ pub extern "C" fn melszondru_tick(
 
 // A packet leaves the paddles alone.
 #[no_mangle]
-pub extern "C" fn melszondru_receive(
+pub extern "C" fn melszondru_parts_receive(
     counters: &mut [u16; 11],
     numbers: &mut [u8; 14],
     all: &mut [u8; 256],
@@ -193,7 +193,7 @@ pub extern "C" fn melszondru_receive(
 }
 
 #[no_mangle]
-pub extern "C" fn melszondru_restart(
+pub extern "C" fn melszondru_parts_restart(
     counters: &mut [u16; 11],
     numbers: &mut [u8; 14],
     all: &mut [u8; 256],
@@ -207,7 +207,7 @@ pub extern "C" fn melszondru_restart(
 
 // The 256 bytes for the owner to save, with the password among them.
 #[no_mangle]
-pub extern "C" fn melszondru_image(numbers: &[u8; 14], all: &[u8; 256], out: &mut [u8; 256])
+pub extern "C" fn melszondru_parts_image(numbers: &[u8; 14], all: &[u8; 256], out: &mut [u8; 256])
     ensures { λ r. ⌜ now (out .exit) ≡ imageOf (now (all .entry)) (passwordOf (now (numbers .entry))) ⌝ }
 {
     registers::image(all, password_of(numbers), out)

@@ -2,8 +2,8 @@ use Prim.Native.Nat.{_≤_, _<_, _%_}
 use native.Mathlib.Omega.{arith}
 use Rattle.host.proofs.Quick.{edge-speaks, press-responded}
 use borrow.Author.Needs.{needs}
-use Rattle.host.proofs.melszondru_press.Statement.{statement}
-use Rattle.host.proofs.melszondru_press.Tie as tie
+use Rattle.host.proofs.melszondru_parts_press.Statement.{statement}
+use Rattle.host.proofs.melszondru_parts_press.Tie as tie
 
 press-requires : tie.Need-press-requires
 press-requires c κs = search needs
@@ -68,8 +68,8 @@ returns-3 c =
     (core .core-of .ensures) (show .before .none .ensures) (show .show .ensures)
     (c .before .before .before .keep-times .ensures) (c .before .keep-paddle .ensures) (c .figures-of .ensures)
 
-pub melszondru-press-spec : {M : Type 1} → statement M
-melszondru-press-spec =
+pub melszondru-parts-press-spec : {M : Type 1} → statement M
+melszondru-parts-press-spec =
     tie.close
     (tie.spec
     press-requires

@@ -1,7 +1,7 @@
 use Rattle.host.proofs.Quick.{receive-speaks}
 use borrow.Author.Needs.{needs}
-use Rattle.host.proofs.melszondru_receive.Statement.{statement}
-use Rattle.host.proofs.melszondru_receive.Tie as tie
+use Rattle.host.proofs.melszondru_parts_receive.Statement.{statement}
+use Rattle.host.proofs.melszondru_parts_receive.Tie as tie
 
 core-of-requires : tie.Need-core-of-requires
 core-of-requires c κs = search needs
@@ -34,8 +34,8 @@ returns c =
     receive-speaks _ _ _ _ _ _ _ _ _ _ _ _ _ _ (password .before .before .core-of .ensures) (password .password-of .ensures) (handle .handle .ensures)
     (c .before .before .before .before .before .keep-run .ensures) (c .before .before .before .keep-password .ensures) (c .before .keep-core .ensures) (c .figures-of .ensures)
 
-pub melszondru-receive-spec : {M : Type 1} → statement M
-melszondru-receive-spec =
+pub melszondru-parts-receive-spec : {M : Type 1} → statement M
+melszondru-parts-receive-spec =
     tie.close
     (tie.spec
     core-of-requires

@@ -1,8 +1,8 @@
 use borrow.Author.Tests.{not-false}
 use Rattle.host.proofs.Quick.{tick-speaks}
 use borrow.Author.Needs.{needs}
-use Rattle.host.proofs.melszondru_tick.Statement.{statement}
-use Rattle.host.proofs.melszondru_tick.Tie as tie
+use Rattle.host.proofs.melszondru_parts_tick.Statement.{statement}
+use Rattle.host.proofs.melszondru_parts_tick.Tie as tie
 
 tick-requires : tie.Need-tick-requires
 tick-requires c κs = search needs
@@ -80,8 +80,8 @@ returns-4 c =
     (not-false _ (quiet .if3 .left)) (core .core-of .ensures) (save .before .aged .ensures) (save .run .ensures) (show .before .none .ensures)
     (show .show .ensures) (run .keep-run .ensures) (c .before .before .before .keep-all-times .ensures) (c .before .keep-step .ensures) (c .figures-of .ensures)
 
-pub melszondru-tick-spec : {M : Type 1} → statement M
-melszondru-tick-spec =
+pub melszondru-parts-tick-spec : {M : Type 1} → statement M
+melszondru-parts-tick-spec =
     tie.close
     (tie.spec
     tick-requires

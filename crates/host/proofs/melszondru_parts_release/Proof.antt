@@ -3,8 +3,8 @@ use Prim.Native.Nat.{_≤_, _<_, _%_}
 use native.Mathlib.Omega.{arith}
 use Rattle.host.proofs.Quick.{edge-speaks, release-responded}
 use borrow.Author.Needs.{needs}
-use Rattle.host.proofs.melszondru_release.Statement.{statement}
-use Rattle.host.proofs.melszondru_release.Tie as tie
+use Rattle.host.proofs.melszondru_parts_release.Statement.{statement}
+use Rattle.host.proofs.melszondru_parts_release.Tie as tie
 
 release-requires : tie.Need-release-requires
 release-requires c κs = search needs
@@ -83,8 +83,8 @@ returns-4 c =
     (core .core-of .ensures) (show .before .none2 .ensures) (show .show .ensures)
     (c .before .before .before .keep-times .ensures) (c .before .keep-paddle .ensures) (c .figures-of .ensures)
 
-pub melszondru-release-spec : {M : Type 1} → statement M
-melszondru-release-spec =
+pub melszondru-parts-release-spec : {M : Type 1} → statement M
+melszondru-parts-release-spec =
     tie.close
     (tie.spec
     release-requires

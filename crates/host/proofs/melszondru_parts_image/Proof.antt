@@ -1,6 +1,6 @@
 use borrow.Author.Needs.{needs}
-use Rattle.host.proofs.melszondru_image.Statement.{statement}
-use Rattle.host.proofs.melszondru_image.Tie as tie
+use Rattle.host.proofs.melszondru_parts_image.Statement.{statement}
+use Rattle.host.proofs.melszondru_parts_image.Tie as tie
 
 password-of-requires : tie.Need-password-of-requires
 password-of-requires c κs = search needs
@@ -11,5 +11,5 @@ image-requires c κs = search needs
 returns : tie.Need-returns
 returns c = simp (c .image .ensures, c .before .before .password-of .ensures)
 
-pub melszondru-image-spec : {M : Type 1} → statement M
-melszondru-image-spec = tie.close (tie.spec password-of-requires image-requires returns)
+pub melszondru-parts-image-spec : {M : Type 1} → statement M
+melszondru-parts-image-spec = tie.close (tie.spec password-of-requires image-requires returns)

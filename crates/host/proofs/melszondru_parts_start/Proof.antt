@@ -1,8 +1,8 @@
 use Rattle.host.proofs.Laws.{begins, begins-none}
 use native.Mathlib.Omega.{arith}
 use borrow.Author.Needs.{needs}
-use Rattle.host.proofs.melszondru_start.Statement.{statement}
-use Rattle.host.proofs.melszondru_start.Tie as tie
+use Rattle.host.proofs.melszondru_parts_start.Statement.{statement}
+use Rattle.host.proofs.melszondru_parts_start.Tie as tie
 
 start-requires : tie.Need-start-requires
 start-requires c κs = search needs
@@ -21,6 +21,6 @@ returns-2 c =
     let event = c .before .before .before .before .before .before in
     begins _ _ _ _ _ _ _ _ _ (omega arith) (event .start .ensures) (c .tell .ensures)
 
-pub melszondru-start-spec : {M : Type 1} → statement M
-melszondru-start-spec =
+pub melszondru-parts-start-spec : {M : Type 1} → statement M
+melszondru-parts-start-spec =
     tie.close (tie.spec start-requires figures-of-requires returns tell-requires returns-2)

@@ -1,0 +1,246 @@
+/* A switch in a firmware's main loop: 240 ticks a second, edges from the contacts, packets from the line and to it, and the image
+ * saved when it changed. "What the board gives" is what a port writes anew; here the board is simulated at the end of the file,
+ * from a script of 75 seconds that passes without a clock and without sleep. Prints what it did, and answers 0 only where all came
+ * out as it should.
+ *
+ * How often the image changes, and what that does to flash:
+ *   - once at a start or restart (0xFC) and once at an entry into Setup (0xFA), each until its counter stands at 255;
+ *   - every 480 ticks, so every 2 seconds, where the percent is another than 2 seconds ago (0xF9);
+ *   - with each Set Registers in Setup, with each Store Preset, and on entering Factory Default.
+ * Level commands and Store Preset need no password: whoever reaches the line can change the image at will. A single Blink packet of
+ * value 8 changes 0xF9 at every save, 43,200 times a day, until another command or a paddle ends it; Goto and Store Preset in turns
+ * change it with every second packet. Where a place of flash stands 10,000 erasures:
+ *
+ *                                            written at once    at most once a minute
+ *     an erasure to each image               5.6 hours          6.9 days
+ *     16 images laid into 4 KB, then erased  3.7 days           111 days
+ *     the same over 16 such sectors          59 days            4.9 years
+ *
+ * and an evening by hand writes about twice for each change of level. So `save` below writes at once only where the mode changed
+ * (that takes the password or a paddle, and what was set in Setup is then written at its end), and else at most once in APART. A cut
+ * of power may then lose up to APART of changes. Memory without wear (FRAM) needs none of this. */
+#include <stdio.h>
+#include <string.h>
+
+#include "melszondru.h"
+
+enum { APART = 60 * MELSZONDRU_SECOND };
+
+/* What the board gives. Interrupts fill its queues and count its ticks; none of them calls the library. */
+enum { LONGEST = MELSZONDRU_PLACE + 1 }; /* a byte more than a packet may have, so that a longer one is still seen to be so */
+static uint32_t board_ticks(void);       /* the ticks since power came */
+static uint8_t board_contacts(void);     /* bit n: contact n is down, debounced */
+static int board_received(uint8_t packet[LONGEST], size_t *length);   /* the next packet of the queue; 0: there is none */
+static int board_sends(const uint8_t *packet, uint8_t length);        /* takes a copy to send; 0: its queue is full */
+static void board_shows(uint8_t output, uint8_t colour);              /* the output in steps, 0 to 200, and the lamp */
+static void board_saved(uint8_t image[MELSZONDRU_REGISTERS]);         /* what was saved last */
+static void board_saves(const uint8_t image[MELSZONDRU_REGISTERS]);   /* two places in turn, so that a cut leaves one whole */
+
+/* The firmware. */
+static struct melszondru held;
+static struct melszondru_answer last;            /* the last answer */
+static uint8_t out[MELSZONDRU_ROOM];             /* one buffer for all events: what was sent is copied at once */
+static uint8_t saved[MELSZONDRU_REGISTERS];      /* the image as it is in flash */
+static uint8_t saved_mode;
+static uint32_t saved_tick, done;                /* the tick of the last save, and the ticks that the switch was told of */
+static uint8_t down;                             /* the contacts as the switch was told */
+static uint32_t refused, dropped;
+
+/* Every event's answer comes by here: what is sent is handed on, what is shown is shown. */
+static void told(struct melszondru_answer answer)
+{
+    const uint8_t *packet;
+    uint8_t length;
+    for (unsigned n = 0; (packet = melszondru_packet(&answer, out, n, &length)) != NULL; n++)
+        dropped += !board_sends(packet, length);
+    refused += answer.number != MELSZONDRU_DONE;
+    board_shows(answer.output, answer.colour);
+    last = answer;
+}
+
+static void edges(void)
+{
+    uint8_t now = board_contacts();
+    for (uint8_t contact = MELSZONDRU_LOCAL_TOP; contact <= MELSZONDRU_SLAVE_BOTTOM; contact++) {
+        uint8_t bit = (uint8_t)(1u << contact);
+        if ((now & bit) && !(down & bit))
+            told(melszondru_press(&held, contact, out, sizeof out));
+        if (!(now & bit) && (down & bit))
+            told(melszondru_release(&held, contact, out, sizeof out));
+    }
+    down = now;
+}
+
+static void packets(void)
+{
+    uint8_t packet[LONGEST];
+    size_t length;
+    while (board_received(packet, &length))
+        told(melszondru_receive(&held, packet, length, out, sizeof out));
+}
+
+static void save(uint32_t apart)
+{
+    uint8_t image[MELSZONDRU_REGISTERS];
+    melszondru_image(&held, image);
+    if (memcmp(image, saved, sizeof image) == 0 || (last.mode == saved_mode && done - saved_tick < apart))
+        return;
+    board_saves(image);
+    memcpy(saved, image, sizeof image);
+    saved_mode = last.mode;
+    saved_tick = done;
+}
+
+/* Power came: 0 where there is no switch to run. The start counts in 0xFC, so its image is saved at once. */
+static int begin(void)
+{
+    board_saved(saved);
+    last = melszondru_start(&held, saved, sizeof saved);
+    if (last.number != MELSZONDRU_DONE)
+        return 0;
+    done = board_ticks();
+    down = 0;
+    saved_mode = last.mode;
+    board_shows(last.output, last.colour);
+    save(0);
+    return 1;
+}
+
+/* One pass of the main loop. A pass that comes late makes up for the ticks it missed. */
+static void pass(uint32_t apart)
+{
+    while (done != board_ticks()) {
+        edges();
+        packets();
+        told(melszondru_tick(&held, out, sizeof out));
+        done++;
+        save(apart);
+    }
+}
+
+/* The board, simulated: unit 5 of network 1 at 40 %, and an hour's worth of things in 75 seconds. */
+static const struct { uint32_t tick; uint8_t contacts; } HANDS[] = {
+    {500, 1}, {600, 0},      /* a tap on the local top paddle: full, by a fade of 2 seconds */
+    {17000, 8}, {17400, 0},  /* the slave's bottom paddle held: down as long as it is held */
+};
+
+static const struct { uint32_t tick; uint8_t length, bytes[LONGEST]; const char *what; } LINE[] = {
+    {1500, 7, {0x07, 0x00, 0x01, 0x05, 0x09, 0x30, 0xBA}, "Report Status"},
+    {1550, 7, {0x07, 0x00, 0x01, 0x05, 0x09, 0x30, 0xBB}, "Report Status with a wrong sum"},
+    {1600, 9, {0x89, 0x00, 0x01, 0x03, 0x09, 0x22, 0x32, 0x00, 0x16}, "Goto 50 % by link 3"},
+    {2100, 9, {0x09, 0x00, 0x01, 0x05, 0x09, 0x03, 0x12, 0x34, 0x9F}, "Start Setup"},
+    {2200, 9, {0x09, 0x00, 0x01, 0x05, 0x09, 0x11, 0x43, 0x04, 0x90}, "Set Registers: link 4 for the second component"},
+    {2300, 7, {0x07, 0x00, 0x01, 0x05, 0x09, 0x04, 0xE6}, "Stop Setup"},
+    {2500, 8, {0x88, 0x00, 0x01, 0x03, 0x09, 0x25, 0x08, 0x3E}, "Blink 8 by link 3"},
+    {16900, 7, {0x87, 0x00, 0x01, 0x03, 0x09, 0x24, 0x48}, "Fade Stop by link 3"},
+};
+
+enum { LATE = 2000, END = 18000, SENDS = 8 };
+static uint32_t ticks, heard, writes;
+static uint8_t flash[MELSZONDRU_REGISTERS], output, lamp, sent[SENDS][MELSZONDRU_PLACE], sends;
+static int quiet;
+
+static uint32_t board_ticks(void) { return ticks; }
+
+static uint8_t board_contacts(void)
+{
+    uint8_t contacts = 0;
+    for (size_t i = 0; i < sizeof HANDS / sizeof *HANDS && HANDS[i].tick <= ticks; i++)
+        contacts = HANDS[i].contacts;
+    return contacts;
+}
+
+static int board_received(uint8_t packet[LONGEST], size_t *length)
+{
+    if (heard == sizeof LINE / sizeof *LINE || LINE[heard].tick > ticks)
+        return 0;
+    if (!quiet)
+        printf("%6lu  received: %s\n", (unsigned long)ticks, LINE[heard].what);
+    *length = LINE[heard].length;
+    memcpy(packet, LINE[heard++].bytes, *length);
+    return 1;
+}
+
+static int board_sends(const uint8_t *packet, uint8_t length)
+{
+    if (sends == SENDS)
+        return 0;
+    memcpy(sent[sends++], packet, length);
+    if (quiet)
+        return 1;
+    printf("%6lu  sent:    ", (unsigned long)ticks);
+    for (uint8_t i = 0; i < length; i++)
+        printf(" %02x", packet[i]);
+    printf("\n");
+    return 1;
+}
+
+static void board_shows(uint8_t step, uint8_t colour)
+{
+    output = step;
+    lamp = colour;
+}
+
+static void board_saved(uint8_t image[MELSZONDRU_REGISTERS]) { memcpy(image, flash, sizeof flash); }
+
+static void board_saves(const uint8_t image[MELSZONDRU_REGISTERS])
+{
+    memcpy(flash, image, sizeof flash);
+    writes++;
+    if (!quiet)
+        printf("%6lu  saved:    %u %%, %u entries into Setup, %u starts\n", (unsigned long)ticks, image[0xF9], image[0xFA], image[0xFC]);
+}
+
+/* The image that the works put into flash. */
+static void board_new(void)
+{
+    memset(flash, 0, sizeof flash);
+    memcpy(flash, "\x01\x05\x12\x34", 4);
+    flash[0x40] = 3;                                                 /* the first receive component: link 3 */
+    memcpy(flash + 0x70, "\x07\x0E\x0F\x0F\x0F\x08\x0F\x0F\x0F\x0E", 10); /* the top's single and the bottom's Release tell the level */
+    memcpy(flash + 0x7A, "\x64\xFF\x64\x00\x00\xFF\x00\x00", 8);
+    flash[0x8B] = 0x09;
+    flash[0x8D] = 0x13;                                              /* dimming capable, default rate 3 */
+    flash[0xF9] = 40;
+    ticks = heard = writes = refused = dropped = 0;
+    sends = 0;
+}
+
+/* The script from power to power cut, and what a start finds after it. */
+static int evening(uint32_t apart)
+{
+    board_new();
+    if (!begin())
+        return 0;
+    while (ticks < END) {
+        ticks += ticks == LATE ? 5 : 1;
+        pass(apart);
+    }
+    printf("%6lu  power cut:  step %u, output %u, lamp %u; %u sent, %lu refused, %lu saves\n", (unsigned long)ticks, last.level, output,
+           lamp, sends, (unsigned long)refused, (unsigned long)writes);
+    return 1;
+}
+
+/* By heart: what the script must come to. */
+static int as_it_should(uint32_t expected_writes, uint8_t percent)
+{
+    static const uint8_t SENT[][MELSZONDRU_PLACE] = {
+        {0x88, 0x00, 0x01, 0x07, 0x05, 0x86, 0x28, 0xBD},
+        {0x08, 0x00, 0x01, 0x09, 0x05, 0x86, 0x64, 0xFF},
+        {0x88, 0x00, 0x01, 0x08, 0x05, 0x86, 0x00, 0x00},
+    };
+    int well = sends == sizeof SENT / sizeof *SENT && memcmp(sent[0], SENT[0], 8) == 0 && memcmp(sent[1], SENT[1], 8) == 0;
+    well &= refused == 1 && dropped == 0 && done == ticks && writes == expected_writes;
+    well &= flash[0xF9] == percent && flash[0xFA] == 1 && flash[0xFC] == 1 && flash[0x43] == 4 && flash[0x02] == 0x12;
+    well &= begin() && last.level == 2 * percent && last.mode == MELSZONDRU_NORMAL && flash[0xFC] == 2;
+    return well;
+}
+
+int main(void)
+{
+    int well = evening(0) && as_it_should(0, 0);
+    quiet = 1;
+    well &= evening(APART) && as_it_should(0, 0);
+    printf("%s\n", well ? "ok" : "WRONG");
+    return well ? 0 : 1;
+}

@@ -1,0 +1,66 @@
+/* Every function and name of the header used once, in what C89 and C++98 have in common. Answers 0, or the line that went wrong. */
+#include <string.h>
+
+#include "melszondru.h"
+#include "melszondru.h"
+
+#define WANT(what) do { if (!(what)) return __LINE__; } while (0)
+
+#if MELSZONDRU_HEADER_VERSION != 2 || MELSZONDRU_LANDING != 0
+#error "another header"
+#endif
+
+static uint8_t image[MELSZONDRU_REGISTERS], again[MELSZONDRU_REGISTERS], out[MELSZONDRU_ROOM];
+static struct melszondru one;
+
+/* Both paddles tapped once, both with a link: the two packets of one tick, by number. */
+static int two_packets(void)
+{
+    struct melszondru_answer answer;
+    const uint8_t *packet;
+    uint8_t length;
+    int tick;
+    WANT(melszondru_press(&one, MELSZONDRU_LOCAL_TOP, out, sizeof out).number == MELSZONDRU_DONE);
+    WANT(melszondru_press(&one, MELSZONDRU_SLAVE_BOTTOM, out, sizeof out).number == MELSZONDRU_DONE);
+    for (tick = 0; tick < 60; tick++)
+        WANT(melszondru_tick(&one, out, sizeof out).count == 0);
+    WANT(melszondru_release(&one, MELSZONDRU_LOCAL_TOP, out, sizeof out).count == 0);
+    answer = melszondru_release(&one, MELSZONDRU_SLAVE_BOTTOM, out, sizeof out);
+    WANT(melszondru_packet(&answer, out, 0, &length) == NULL && length == 0);
+    for (tick = 0; tick < 180; tick++)
+        answer = melszondru_tick(&one, out, sizeof out);
+    WANT(answer.count == 2);
+    packet = melszondru_packet(&answer, out, 0, &length);
+    WANT(packet == out && length == answer.first && length == (packet[0] & 31) && packet[3] == 7);
+    packet = melszondru_packet(&answer, out, 1, &length);
+    WANT(packet == out + MELSZONDRU_PLACE && length == answer.second && length == (packet[0] & 31) && packet[3] == 8);
+    WANT(melszondru_packet(&answer, out, 2, &length) == NULL && length == 0);
+    return 0;
+}
+
+static int others(void)
+{
+    static const uint8_t asks[] = {0x07, 0x00, 0x01, 0x05, 0x09, 0x30, 0xBA};
+    struct melszondru_answer answer = melszondru_receive(&one, asks, sizeof asks, out, sizeof out);
+    WANT(answer.number == MELSZONDRU_DONE && answer.count == 1 && answer.mode == MELSZONDRU_NORMAL);
+    WANT(melszondru_receive(&one, asks, 6, out, sizeof out).number == MELSZONDRU_TOO_SHORT);
+    WANT(melszondru_tick(&one, out, sizeof out - 1).number == MELSZONDRU_NO_ROOM);
+    WANT(melszondru_press(&one, 4, out, sizeof out).number == MELSZONDRU_NO_CONTACT);
+    WANT(melszondru_restart(&one, out, sizeof out).colour == MELSZONDRU_RED);
+    melszondru_image(&one, again);
+    image[0xFC] = 2;
+    WANT(memcmp(image, again, sizeof image) == 0);
+    return 0;
+}
+
+int main(void)
+{
+    int line;
+    memcpy(image, "\x01\x05\x12\x34", 4);
+    memcpy(image + 0x70, "\x07\x0E\x0E\x0E\x0E\x08\x0E\x0E\x0E\x0E", 10);
+    image[0x8D] = 0x13;
+    WANT(melszondru_start(&one, image, 255).number == MELSZONDRU_NO_IMAGE);
+    WANT(melszondru_start(&one, image, sizeof image).number == MELSZONDRU_DONE);
+    line = two_packets();
+    return line ? line : others();
+}
