@@ -18,7 +18,7 @@ static struct melszondru_answer start_from(struct melszondru *s, size_t length)
     image[0x40] = 3;    /* the first receive component listens to link 3 */
     image[0x8D] = 0x13; /* dimming capable, default rate 3 */
     image[0xF9] = 40;   /* the saved percent: step 80 */
-    return melszondru_start(image, length, s->counters, s->numbers, s->registers);
+    return melszondru_start(s, image, length);
 }
 
 static struct melszondru_answer start(struct melszondru *s)
@@ -26,10 +26,10 @@ static struct melszondru_answer start(struct melszondru *s)
     return start_from(s, MELSZONDRU_REGISTERS);
 }
 
-static struct melszondru_answer receive(struct melszondru *s, const uint8_t *packet, size_t length, uint8_t out[48])
+static struct melszondru_answer receive(struct melszondru *s, const uint8_t *packet, size_t length, uint8_t out[MELSZONDRU_ROOM])
 {
     memset(out, 0xAA, MELSZONDRU_ROOM);
-    return melszondru_receive(s->counters, s->numbers, s->registers, packet, length, out, MELSZONDRU_ROOM);
+    return melszondru_receive(s, packet, length, out, MELSZONDRU_ROOM);
 }
 
 static int told(const char *what, int well)
@@ -45,13 +45,15 @@ static int case_a(void)
     static const uint8_t tells[] = {0x08, 0x00, 0x01, 0x09, 0x05, 0x86, 0x28, 0x3B};
     struct melszondru s;
     uint8_t out[MELSZONDRU_ROOM];
-    int begun = start(&s).number == 0;
+    int begun = start(&s).number == MELSZONDRU_DONE;
     struct melszondru_answer a = receive(&s, asks, sizeof asks, out);
+    uint8_t length;
+    const uint8_t *reply = melszondru_packet(&a, out, 0, &length);
     int rest = 1;
     for (size_t i = sizeof tells; i < sizeof out; i++)
         rest &= out[i] == 0xAA;
-    return told("(a) report status", begun && a.number == 0 && a.count == 1 && a.first == sizeof tells && a.second == 0
-                                         && memcmp(out, tells, sizeof tells) == 0 && rest);
+    return told("(a) report status", begun && a.number == MELSZONDRU_DONE && a.count == 1 && length == sizeof tells && a.second == 0
+                                         && memcmp(reply, tells, sizeof tells) == 0 && rest);
 }
 
 /* (b) Goto by link 3, at once. */
@@ -62,7 +64,8 @@ static int case_b(void)
     uint8_t out[MELSZONDRU_ROOM];
     int before = start(&s).level;
     struct melszondru_answer a = receive(&s, goes, sizeof goes, out);
-    return told("(b) goto by link", before == 80 && a.number == 0 && a.count == 0 && a.level == 100 && a.output == 100);
+    return told("(b) goto by link",
+                before == 80 && a.number == MELSZONDRU_DONE && a.count == 0 && a.level == 100 && a.output == 100);
 }
 
 /* (c) The right password enters Setup. */
@@ -73,7 +76,7 @@ static int case_c(void)
     uint8_t out[MELSZONDRU_ROOM];
     int before = start(&s).mode;
     struct melszondru_answer a = receive(&s, opens, sizeof opens, out);
-    return told("(c) right password", before == 0 && a.number == 0 && a.mode == 1);
+    return told("(c) right password", before == MELSZONDRU_NORMAL && a.number == MELSZONDRU_DONE && a.mode == MELSZONDRU_SETUP);
 }
 
 /* (d) Each of the 65,535 others is 14, and nothing of the switch changes. */
@@ -93,7 +96,8 @@ static int case_d(void)
         if (packet[6] == PASSWORD[0] && packet[7] == PASSWORD[1])
             continue;
         struct melszondru_answer a = receive(&s, packet, sizeof packet, out);
-        refused += a.number == 14 && a.mode == 0 && a.count == 0 && memcmp(&s, &before, sizeof s) == 0;
+        refused += a.number == MELSZONDRU_WRONG_PASSWORD && a.mode == MELSZONDRU_NORMAL && a.count == 0
+                   && memcmp(&s, &before, sizeof s) == 0;
     }
     return told("(d) the 65,535 wrong passwords", refused == 65535);
 }
@@ -104,11 +108,11 @@ static int busy(struct melszondru *s)
     static const uint8_t opens[] = {0x09, 0x00, 0x01, 0x05, 0x09, 0x03, 0x12, 0x34, 0x9F};
     static const uint8_t fades[] = {0x89, 0x00, 0x01, 0x03, 0x09, 0x22, 0x32, 0x05, 0x11};
     uint8_t out[MELSZONDRU_ROOM];
-    int well = start(s).number == 0 && receive(s, opens, sizeof opens, out).mode == 1;
-    well &= receive(s, fades, sizeof fades, out).number == 0;
-    well &= melszondru_press(s->counters, s->numbers, s->registers, 0, out, sizeof out).number == 0;
+    int well = start(s).number == MELSZONDRU_DONE && receive(s, opens, sizeof opens, out).mode == MELSZONDRU_SETUP;
+    well &= receive(s, fades, sizeof fades, out).number == MELSZONDRU_DONE;
+    well &= melszondru_press(s, MELSZONDRU_LOCAL_TOP, out, sizeof out).number == MELSZONDRU_DONE;
     for (int i = 0; i < 100; i++)
-        well &= melszondru_tick(s->counters, s->numbers, s->registers, out, sizeof out).number == 0;
+        well &= melszondru_tick(s, out, sizeof out).number == MELSZONDRU_DONE;
     return well && s->counters[5] != 0 && s->counters[10] != 0 && s->numbers[11] != 0;
 }
 
@@ -116,7 +120,7 @@ static int busy(struct melszondru *s)
 static int case_refused(void)
 {
     static const size_t lengths[] = {0, 1, 255, 257};
-    static const struct melszondru_answer one = {1, 0, 0, 0, 0, 0, 0, 0};
+    static const struct melszondru_answer one = {MELSZONDRU_NO_IMAGE, 0, 0, 0, 0, 0, 0, 0};
     struct melszondru s, before;
     int well = busy(&s);
     before = s;
@@ -135,7 +139,7 @@ static int case_forgets(void)
     memset(&ones, 0xFF, sizeof ones);
     int well = busy(&running);
     struct melszondru_answer a = start(&zeros), b = start(&ones), c = start(&running);
-    well &= a.number == 0 && memcmp(&a, &b, sizeof a) == 0 && memcmp(&a, &c, sizeof a) == 0;
+    well &= a.number == MELSZONDRU_DONE && memcmp(&a, &b, sizeof a) == 0 && memcmp(&a, &c, sizeof a) == 0;
     well &= memcmp(&zeros, &ones, sizeof zeros) == 0 && memcmp(&zeros, &running, sizeof zeros) == 0;
     return told("a start forgets what was there", well);
 }

@@ -1,24 +1,25 @@
 /* A switch in a firmware's main loop: 240 ticks a second, edges from the contacts, packets from the line and to it, and the image
- * saved when it changed. "What the board gives" is what a port writes anew; here the board is simulated at the end of the file,
- * from a script of 75 seconds that passes without a clock and without sleep. Prints what it did, and answers 0 only where all came
- * out as it should.
+ * saved when it changed. "What the board gives" is what a port writes anew; here the board is simulated at the end of the file, by
+ * a script of 75 seconds that pass without a clock and without sleep. Prints what it did, and answers 0 only where all came out as
+ * it should.
  *
- * How often the image changes, and what that does to flash:
+ * How often the image changes:
  *   - once at a start or restart (0xFC) and once at an entry into Setup (0xFA), each until its counter stands at 255;
- *   - every 480 ticks, so every 2 seconds, where the percent is another than 2 seconds ago (0xF9);
- *   - with each Set Registers in Setup, with each Store Preset, and on entering Factory Default.
- * Level commands and Store Preset need no password: whoever reaches the line can change the image at will. A single Blink packet of
- * value 8 changes 0xF9 at every save, 43,200 times a day, until another command or a paddle ends it; Goto and Store Preset in turns
- * change it with every second packet. Where a place of flash stands 10,000 erasures:
+ *   - every 480 ticks, so every 2 seconds, where the percent is another than at the last such tick (0xF9): a fade of 2 seconds
+ *     changes it once or twice;
+ *   - with Set Registers in Setup, with Store Preset, and on entering Factory Default.
+ * Level commands and Store Preset need no password, so whoever reaches the line can change the image at will: one Blink packet of
+ * value 8 changes 0xF9 at every save, 43,200 times a day, until something else sets the level; Goto and Store Preset in turns
+ * change a preset with every second packet. Where a place of flash stands 10,000 erasures and 0xF9 changes at every save, it lasts
  *
- *                                            written at once    at most once a minute
- *     an erasure to each image               5.6 hours          6.9 days
- *     16 images laid into 4 KB, then erased  3.7 days           111 days
- *     the same over 16 such sectors          59 days            4.9 years
+ *                                                 written at once    at most once a minute
+ *     where each image takes an erasure           5.6 hours          6.9 days
+ *     where 16 images are laid into 4 KB first    3.7 days           111 days
+ *     the same over 16 such sectors in turn       59 days            4.9 years
  *
- * and an evening by hand writes about twice for each change of level. So `save` below writes at once only where the mode changed
- * (that takes the password or a paddle, and what was set in Setup is then written at its end), and else at most once in APART. A cut
- * of power may then lose up to APART of changes. Memory without wear (FRAM) needs none of this. */
+ * So `save` writes at once only what it finds changed after a change of mode (which takes the password or a paddle; what was set in
+ * Setup is then written at its end), and else at most once in APART. A power cut may then lose the changes of up to APART. Memory
+ * without wear (FRAM) needs none of this. */
 #include <stdio.h>
 #include <string.h>
 
@@ -33,8 +34,8 @@ static uint8_t board_contacts(void);     /* bit n: contact n is down, debounced 
 static int board_received(uint8_t packet[LONGEST], size_t *length);   /* the next packet of the queue; 0: there is none */
 static int board_sends(const uint8_t *packet, uint8_t length);        /* takes a copy to send; 0: its queue is full */
 static void board_shows(uint8_t output, uint8_t colour);              /* the output in steps, 0 to 200, and the lamp */
-static void board_saved(uint8_t image[MELSZONDRU_REGISTERS]);         /* what was saved last */
-static void board_saves(const uint8_t image[MELSZONDRU_REGISTERS]);   /* two places in turn, so that a cut leaves one whole */
+static void board_saved(uint8_t image[MELSZONDRU_REGISTERS]);         /* the last image that was saved whole */
+static void board_saves(const uint8_t image[MELSZONDRU_REGISTERS]);   /* not over the last one: power may go in between */
 
 /* The firmware. */
 static struct melszondru held;
@@ -118,7 +119,7 @@ static void pass(uint32_t apart)
     }
 }
 
-/* The board, simulated: unit 5 of network 1 at 40 %, and an hour's worth of things in 75 seconds. */
+/* The board, simulated: unit 5 of network 1, at 40 % when power comes. */
 static const struct { uint32_t tick; uint8_t contacts; } HANDS[] = {
     {500, 1}, {600, 0},      /* a tap on the local top paddle: full, by a fade of 2 seconds */
     {17000, 8}, {17400, 0},  /* the slave's bottom paddle held: down as long as it is held */
@@ -132,7 +133,7 @@ static const struct { uint32_t tick; uint8_t length, bytes[LONGEST]; const char 
     {2200, 9, {0x09, 0x00, 0x01, 0x05, 0x09, 0x11, 0x43, 0x04, 0x90}, "Set Registers: link 4 for the second component"},
     {2300, 7, {0x07, 0x00, 0x01, 0x05, 0x09, 0x04, 0xE6}, "Stop Setup"},
     {2500, 8, {0x88, 0x00, 0x01, 0x03, 0x09, 0x25, 0x08, 0x3E}, "Blink 8 by link 3"},
-    {16900, 7, {0x87, 0x00, 0x01, 0x03, 0x09, 0x24, 0x48}, "Fade Stop by link 3"},
+    {4890, 7, {0x87, 0x00, 0x01, 0x03, 0x09, 0x24, 0x48}, "Fade Stop by link 3"},
 };
 
 enum { LATE = 2000, END = 18000, SENDS = 8 };
@@ -188,7 +189,8 @@ static void board_saves(const uint8_t image[MELSZONDRU_REGISTERS])
     memcpy(flash, image, sizeof flash);
     writes++;
     if (!quiet)
-        printf("%6lu  saved:    %u %%, %u entries into Setup, %u starts\n", (unsigned long)ticks, image[0xF9], image[0xFA], image[0xFC]);
+        printf("%6lu  saved:    %u %%, %u entries into Setup, %u starts\n", (unsigned long)ticks, image[0xF9], image[0xFA],
+               image[0xFC]);
 }
 
 /* The image that the works put into flash. */
@@ -196,17 +198,19 @@ static void board_new(void)
 {
     memset(flash, 0, sizeof flash);
     memcpy(flash, "\x01\x05\x12\x34", 4);
-    flash[0x40] = 3;                                                 /* the first receive component: link 3 */
-    memcpy(flash + 0x70, "\x07\x0E\x0F\x0F\x0F\x08\x0F\x0F\x0F\x0E", 10); /* the top's single and the bottom's Release tell the level */
+    flash[0x40] = 3; /* the first receive component: link 3 */
+    /* The top's single and the bottom's Release tell the level, by links 7 and 8. */
+    memcpy(flash + 0x70, "\x07\x0E\x0F\x0F\x0F\x08\x0F\x0F\x0F\x0E", 10);
     memcpy(flash + 0x7A, "\x64\xFF\x64\x00\x00\xFF\x00\x00", 8);
-    flash[0x8B] = 0x09;
-    flash[0x8D] = 0x13;                                              /* dimming capable, default rate 3 */
+    flash[0x8B] = 0x09; /* green on, red off */
+    flash[0x8D] = 0x13; /* dimming capable, default rate 3 */
     flash[0xF9] = 40;
+    memset(sent, 0, sizeof sent);
     ticks = heard = writes = refused = dropped = 0;
     sends = 0;
 }
 
-/* The script from power to power cut, and what a start finds after it. */
+/* The script from power to power cut. */
 static int evening(uint32_t apart)
 {
     board_new();
@@ -216,31 +220,34 @@ static int evening(uint32_t apart)
         ticks += ticks == LATE ? 5 : 1;
         pass(apart);
     }
-    printf("%6lu  power cut:  step %u, output %u, lamp %u; %u sent, %lu refused, %lu saves\n", (unsigned long)ticks, last.level, output,
-           lamp, sends, (unsigned long)refused, (unsigned long)writes);
+    printf("%6lu  power cut: step %u, output %u, lamp %u; %u sent, %lu refused\n", (unsigned long)ticks, last.level, output, lamp,
+           sends, (unsigned long)refused);
     return 1;
 }
 
-/* By heart: what the script must come to. */
-static int as_it_should(uint32_t expected_writes, uint8_t percent)
+/* What the script must come to: the packets, so many saves, and the percent that a start finds after the cut. */
+static int well(uint32_t saves, uint8_t percent)
 {
     static const uint8_t SENT[][MELSZONDRU_PLACE] = {
-        {0x88, 0x00, 0x01, 0x07, 0x05, 0x86, 0x28, 0xBD},
-        {0x08, 0x00, 0x01, 0x09, 0x05, 0x86, 0x64, 0xFF},
-        {0x88, 0x00, 0x01, 0x08, 0x05, 0x86, 0x00, 0x00},
+        {0x88, 0x00, 0x01, 0x07, 0x05, 0x86, 0x28, 0xBD}, /* the tap, at 40 % */
+        {0x08, 0x00, 0x01, 0x09, 0x05, 0x86, 0x64, 0xFF}, /* the status, 100 % */
+        {0x88, 0x00, 0x01, 0x08, 0x05, 0x86, 0x48, 0x9C}, /* the paddle let go, at 72 % */
     };
-    int well = sends == sizeof SENT / sizeof *SENT && memcmp(sent[0], SENT[0], 8) == 0 && memcmp(sent[1], SENT[1], 8) == 0;
-    well &= refused == 1 && dropped == 0 && done == ticks && writes == expected_writes;
-    well &= flash[0xF9] == percent && flash[0xFA] == 1 && flash[0xFC] == 1 && flash[0x43] == 4 && flash[0x02] == 0x12;
-    well &= begin() && last.level == 2 * percent && last.mode == MELSZONDRU_NORMAL && flash[0xFC] == 2;
-    return well;
+    int good = sends == sizeof SENT / sizeof *SENT && memcmp(sent, SENT, sizeof SENT) == 0;
+    good &= refused == 1 && dropped == 0 && done == END && writes == saves;
+    good &= last.level == 145 && output == 145 && lamp == MELSZONDRU_GREEN && last.mode == MELSZONDRU_NORMAL;
+    good &= flash[0x02] == 0x12 && flash[0x43] == 4 && flash[0xFA] == 1 && flash[0xFC] == 1;
+    good &= begin() && last.level == 2 * percent && flash[0xFC] == 2;
+    return good;
 }
 
 int main(void)
 {
-    int well = evening(0) && as_it_should(0, 0);
+    int at_once, apart;
+    at_once = evening(0) && well(14, 72);
     quiet = 1;
-    well &= evening(APART) && as_it_should(0, 0);
-    printf("%s\n", well ? "ok" : "WRONG");
-    return well ? 0 : 1;
+    apart = evening(APART) && well(4, 100);
+    printf("saved at once: %s; at most once in %d seconds but for a change of mode: %s\n", at_once ? "14 times, ok" : "WRONG",
+           APART / MELSZONDRU_SECOND, apart ? "4 times, ok" : "WRONG");
+    return at_once && apart ? 0 : 1;
 }
