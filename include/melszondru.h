@@ -10,7 +10,7 @@
  *
  * Interrupts and threads: one call at a time for one switch. Different switches may be served at once. An interrupt must not call
  * for a switch in whose call the main loop may stand: let it note the edge, the tick or the packet, and the main loop make the
- * call (examples/loop.c does). No call waits, and none loops longer than the bytes it is handed and the registers it reads.
+ * call (examples/loop.c does). Every call ends, and waits for nothing.
  *
  * From the C library the archive needs memcpy and memmove and nothing else (`nm -u`), and nothing is to be set up before the first
  * call. The deepest stack that was measured is 672 bytes (docs/PERFORMANCE.md has each function's; measured, not proved).
