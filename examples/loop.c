@@ -131,6 +131,7 @@ static const struct { uint32_t tick; uint8_t length, bytes[LONGEST]; const char 
     {1600, 9, {0x89, 0x00, 0x01, 0x03, 0x09, 0x22, 0x32, 0x00, 0x16}, "Goto 50 % by link 3"},
     {2100, 9, {0x09, 0x00, 0x01, 0x05, 0x09, 0x03, 0x12, 0x34, 0x9F}, "Start Setup"},
     {2200, 9, {0x09, 0x00, 0x01, 0x05, 0x09, 0x11, 0x43, 0x04, 0x90}, "Set Registers: link 4 for the second component"},
+    {2250, 9, {0x09, 0x00, 0x01, 0x05, 0x09, 0x11, 0x46, 0x05, 0x8C}, "Set Registers: link 5 for the third"},
     {2300, 7, {0x07, 0x00, 0x01, 0x05, 0x09, 0x04, 0xE6}, "Stop Setup"},
     {2500, 8, {0x88, 0x00, 0x01, 0x03, 0x09, 0x25, 0x08, 0x3E}, "Blink 8 by link 3"},
     {4890, 7, {0x87, 0x00, 0x01, 0x03, 0x09, 0x24, 0x48}, "Fade Stop by link 3"},
@@ -236,7 +237,7 @@ static int well(uint32_t saves, uint8_t percent)
     int good = sends == sizeof SENT / sizeof *SENT && memcmp(sent, SENT, sizeof SENT) == 0;
     good &= refused == 1 && dropped == 0 && done == END && writes == saves;
     good &= last.level == 145 && output == 145 && lamp == MELSZONDRU_GREEN && last.mode == MELSZONDRU_NORMAL;
-    good &= flash[0x02] == 0x12 && flash[0x43] == 4 && flash[0xFA] == 1 && flash[0xFC] == 1;
+    good &= flash[0x02] == 0x12 && flash[0x43] == 4 && flash[0x46] == 5 && flash[0xFA] == 1 && flash[0xFC] == 1;
     good &= begin() && last.level == 2 * percent && flash[0xFC] == 2;
     return good;
 }
@@ -244,10 +245,10 @@ static int well(uint32_t saves, uint8_t percent)
 int main(void)
 {
     int at_once, apart;
-    at_once = evening(0) && well(14, 72);
+    at_once = evening(0) && well(15, 72);
     quiet = 1;
     apart = evening(APART) && well(4, 100);
-    printf("saved at once: %s; at most once in %d seconds but for a change of mode: %s\n", at_once ? "14 times, ok" : "WRONG",
+    printf("saved at once: %s; at most once in %d seconds but for a change of mode: %s\n", at_once ? "15 times, ok" : "WRONG",
            APART / MELSZONDRU_SECOND, apart ? "4 times, ok" : "WRONG");
     return at_once && apart ? 0 : 1;
 }

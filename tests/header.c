@@ -13,7 +13,7 @@
 static uint8_t image[MELSZONDRU_REGISTERS], again[MELSZONDRU_REGISTERS], out[MELSZONDRU_ROOM];
 static struct melszondru one;
 
-/* Both paddles tapped once, both with a link: the two packets of one tick, by number. */
+/* Both paddles tapped once, both with a link: the two packets of one tick, 8 and 9 bytes long, by number. */
 static int two_packets(void)
 {
     struct melszondru_answer answer;
@@ -29,7 +29,7 @@ static int two_packets(void)
     WANT(melszondru_packet(&answer, out, 0, &length) == NULL && length == 0);
     for (tick = 0; tick < 180; tick++)
         answer = melszondru_tick(&one, out, sizeof out);
-    WANT(answer.count == 2);
+    WANT(answer.count == 2 && answer.first == 8 && answer.second == 9);
     packet = melszondru_packet(&answer, out, 0, &length);
     WANT(packet == out && length == answer.first && length == (packet[0] & 31) && packet[3] == 7);
     packet = melszondru_packet(&answer, out, 1, &length);
@@ -57,7 +57,8 @@ int main(void)
 {
     int line;
     memcpy(image, "\x01\x05\x12\x34", 4);
-    memcpy(image + 0x70, "\x07\x0E\x0E\x0E\x0E\x08\x0E\x0E\x0E\x0E", 10);
+    memcpy(image + 0x70, "\x07\x0E\x0E\x0E\x0E\x08\x00\x00\x00\x00", 10); /* the level by link 7, a Goto by link 8 */
+    memcpy(image + 0x90, "\x22\x64\x03", 3);
     image[0x8D] = 0x13;
     WANT(melszondru_start(&one, image, 255).number == MELSZONDRU_NO_IMAGE);
     WANT(melszondru_start(&one, image, sizeof image).number == MELSZONDRU_DONE);
