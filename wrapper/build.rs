@@ -1,19 +1,22 @@
-//! Says where the archive of the proved switch lies: `rt staticlib host` makes it.
+//! Links the archive of the proved switch, and where it is missing says which command makes it.
 
-use std::path::PathBuf;
+use std::path::Path;
 
 fn main() {
-    let root = PathBuf::from(env!("CARGO_MANIFEST_DIR"))
+    let repository = Path::new(env!("CARGO_MANIFEST_DIR"))
         .parent()
-        .expect("the package lies in the repository")
-        .join("target/staticlib");
-    let archive = root.join("libhost.a");
-    assert!(
-        archive.is_file(),
-        "{} is missing: run `rt staticlib host`",
-        archive.display()
-    );
-    println!("cargo:rerun-if-changed={}", archive.display());
-    println!("cargo:rustc-link-search=native={}", root.display());
-    println!("cargo:rustc-link-lib=static=host");
+        .expect("the package lies in the repository");
+    let folder = repository.join("target/staticlib");
+    let archive = folder.join("libhost.a");
+    println!("cargo::rerun-if-changed={}", archive.display());
+    if !archive.is_file() {
+        println!(
+            "cargo::error={} is missing. Run `rt staticlib host` in {} to make it.",
+            archive.display(),
+            repository.display()
+        );
+        return;
+    }
+    println!("cargo::rustc-link-search=native={}", folder.display());
+    println!("cargo::rustc-link-lib=static=host");
 }

@@ -74,13 +74,13 @@ impl Pair {
     fn start(image: &[u8], seed: u64) -> Result<Pair, String> {
         for wrong in [&image[..255], &[]] {
             let refused = (
-                melszondru::Switch::start(wrong).err(),
+                melszondru::Switch::start(wrong).err().map(u8::from),
                 reference::Switch::start(wrong).err(),
             );
             same("a refused start", &refused.0, &refused.1)?;
         }
         let (proved, answer) = melszondru::Switch::start(image)
-            .map_err(|number| format!("the start is refused by {number}"))?;
+            .map_err(|refusal| format!("the start is {refusal}"))?;
         let (reference, other) = reference::Switch::start(image)
             .map_err(|number| format!("the reference refuses by {number}"))?;
         same("the first answer", &numbers(&answer), &others(&other))?;
@@ -127,15 +127,16 @@ impl Pair {
 }
 
 fn numbers(answer: &melszondru::Answer) -> [u8; 8] {
+    let [first, second] = answer.lengths();
     [
-        answer.number,
-        answer.count,
-        answer.first,
-        answer.second,
-        answer.level,
-        answer.output,
-        answer.colour,
-        answer.mode,
+        answer.number(),
+        answer.count() as u8,
+        first as u8,
+        second as u8,
+        answer.level(),
+        answer.output(),
+        answer.colour().into(),
+        answer.mode().into(),
     ]
 }
 
