@@ -7,7 +7,7 @@
 
 /// What a start or an event is answered with.
 ///
-/// On a refusal nothing was sent, and the rest shows the switch as it stands.
+/// On a refusal nothing was sent; level, output, colour and mode are those that the switch still has.
 ///
 /// ```
 /// use melszondru::{Colour, Mode, Refusal, Switch};
