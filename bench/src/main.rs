@@ -1,13 +1,13 @@
 //! `bench time` prints the time of each case, the proved switch beside the reference; `bench count SIDE CASE N` plays N events of
-//! one case, for a counter of instructions to watch; `bench size` prints the bytes of state.
+//! one case, for a counter of instructions to watch, and `bench ready SIDE CASE N` does all of that but the events; `bench cases`
+//! lists the cases by their numbers, and `bench size` prints the bytes of state.
 
 mod play;
 
 use play::{play, ready, Case, Player, CASES};
-use std::time::Instant;
 
-/// Events to a measurement, a multiple of what one press takes before Hold; and how many measurements, of which the shortest
-/// counts: the machine may be busy with other work.
+/// Events to a measurement, a multiple of what one press takes before Hold and of a batch; and how many measurements, of which the
+/// shortest counts: the machine may be busy with other work.
 const EVENTS: u64 = 17_000;
 const ROUNDS: usize = 400;
 
@@ -16,22 +16,32 @@ fn main() {
     let words: Vec<&str> = words.iter().map(String::as_str).collect();
     match words[..] {
         ["time"] => times(),
-        ["count", side, case, count] => counted(side, case, count),
+        ["count", side, case, count] => counted(side, case, count, true),
+        ["ready", side, case, count] => counted(side, case, count, false),
+        ["cases"] => cases(),
         ["size"] => sizes(),
         _ => usage(),
     }
 }
 
 fn usage() -> ! {
-    eprintln!("bench time | bench count proved|reference CASE EVENTS | bench size");
+    eprintln!(
+        "bench time | bench count|ready proved|reference CASE EVENTS | bench cases | bench size"
+    );
     std::process::exit(2);
+}
+
+fn cases() {
+    for (number, (_, name)) in CASES.iter().enumerate() {
+        println!("{number};{name}");
+    }
 }
 
 fn times() {
     for (number, (case, name)) in CASES.iter().enumerate() {
         let (proved, reference) = both(*case);
         println!(
-            "{number};{name};{proved:.2};{reference:.2};{:.2}",
+            "{number};{name};{proved:.2};{reference:.2};{:.4}",
             proved / reference
         );
     }
@@ -50,12 +60,10 @@ fn both(case: Case) -> (f64, f64) {
 }
 
 fn timed<P: Player>(case: Case, from: &P) -> f64 {
-    let begun = Instant::now();
-    play(case, from, EVENTS);
-    begun.elapsed().as_nanos() as f64 / EVENTS as f64
+    play(case, from, EVENTS, true).as_nanos() as f64 / EVENTS as f64
 }
 
-fn counted(side: &str, case: &str, count: &str) {
+fn counted(side: &str, case: &str, count: &str, act: bool) {
     let (Ok(number), Ok(count)) = (case.parse::<usize>(), count.parse::<u64>()) else {
         usage();
     };
@@ -63,10 +71,10 @@ fn counted(side: &str, case: &str, count: &str) {
         usage();
     };
     match side {
-        "proved" => play(*case, &ready::<melszondru::Switch>(*case), count),
-        "reference" => play(*case, &ready::<reference::Switch>(*case), count),
+        "proved" => play(*case, &ready::<melszondru::Switch>(*case), count, act),
+        "reference" => play(*case, &ready::<reference::Switch>(*case), count, act),
         _ => usage(),
-    }
+    };
 }
 
 fn sizes() {

@@ -1,40 +1,64 @@
 //! One set of cases for both switches: the proved one through `host`, and the reference.
 
 use std::hint::black_box;
+use std::time::{Duration, Instant};
 
-/// What the cases need of a switch. The answer is handed over whole, so that nothing of it can be left out.
+/// What the cases need of a switch. Switch, buffer and answer pass through `black_box` at every event, so that no work can be left
+/// out, and what is handed in cannot be known beforehand.
 pub trait Player: Clone {
+    type Answer;
     fn start(image: &[u8; 256]) -> Self;
-    fn press(&mut self, contact: u8, out: &mut [u8]);
-    fn release(&mut self, contact: u8, out: &mut [u8]);
-    fn tick(&mut self, out: &mut [u8]);
-    fn receive(&mut self, packet: &[u8], out: &mut [u8]);
+    fn press(&mut self, contact: u8, out: &mut [u8]) -> Self::Answer;
+    fn release(&mut self, contact: u8, out: &mut [u8]) -> Self::Answer;
+    fn tick(&mut self, out: &mut [u8]) -> Self::Answer;
+    fn receive(&mut self, packet: &[u8], out: &mut [u8]) -> Self::Answer;
+    fn restart(&mut self, out: &mut [u8]) -> Self::Answer;
+    /// The number, the count of packets and the mode of an answer.
+    fn told(answer: &Self::Answer) -> [u8; 3];
 }
 
 macro_rules! player {
-    ($switch:ty) => {
-        impl Player for $switch {
+    ($home:ident) => {
+        impl Player for $home::Switch {
+            type Answer = $home::Answer;
             fn start(image: &[u8; 256]) -> Self {
-                <$switch>::start(image).expect("the image has 256 bytes").0
+                let started = $home::Switch::start(black_box(image));
+                black_box(started).expect("the image has 256 bytes").0
             }
-            fn press(&mut self, contact: u8, out: &mut [u8]) {
-                black_box(<$switch>::press(self, contact, out));
+            fn press(&mut self, contact: u8, out: &mut [u8]) -> Self::Answer {
+                let answer = $home::Switch::press(black_box(self), black_box(contact), out);
+                black_box(out);
+                black_box(answer)
             }
-            fn release(&mut self, contact: u8, out: &mut [u8]) {
-                black_box(<$switch>::release(self, contact, out));
+            fn release(&mut self, contact: u8, out: &mut [u8]) -> Self::Answer {
+                let answer = $home::Switch::release(black_box(self), black_box(contact), out);
+                black_box(out);
+                black_box(answer)
             }
-            fn tick(&mut self, out: &mut [u8]) {
-                black_box(<$switch>::tick(self, out));
+            fn tick(&mut self, out: &mut [u8]) -> Self::Answer {
+                let answer = $home::Switch::tick(black_box(self), out);
+                black_box(out);
+                black_box(answer)
             }
-            fn receive(&mut self, packet: &[u8], out: &mut [u8]) {
-                black_box(<$switch>::receive(self, packet, out));
+            fn receive(&mut self, packet: &[u8], out: &mut [u8]) -> Self::Answer {
+                let answer = $home::Switch::receive(black_box(self), black_box(packet), out);
+                black_box(out);
+                black_box(answer)
+            }
+            fn restart(&mut self, out: &mut [u8]) -> Self::Answer {
+                let answer = $home::Switch::restart(black_box(self), out);
+                black_box(out);
+                black_box(answer)
+            }
+            fn told(answer: &Self::Answer) -> [u8; 3] {
+                [answer.number, answer.count, answer.mode as u8]
             }
         }
     };
 }
 
-player!(melszondru::Switch);
-player!(reference::Switch);
+player!(melszondru);
+player!(reference);
 
 #[derive(Clone, Copy, PartialEq, Eq)]
 pub enum Case {
@@ -45,28 +69,47 @@ pub enum Case {
     Get,
     Refused,
     Edge,
+    BothSend,
+    Factory,
+    Set,
+    Start,
+    Restart,
 }
 
-pub const CASES: [(Case, &str); 7] = [
+pub const CASES: [(Case, &str); 12] = [
     (Case::Idle, "tick, idle"),
     (Case::Fading, "tick, fading"),
     (Case::Down, "tick, paddle down"),
     (Case::Goto, "packet, Goto"),
     (Case::Get, "packet, Get Registers of 16"),
     (Case::Refused, "packet, refused by 9"),
-    (Case::Edge, "edge"),
+    (Case::Edge, "edge (press and release in turns)"),
+    (Case::BothSend, "tick, both paddles send"),
+    (Case::Factory, "tick, into Factory Default"),
+    (Case::Set, "packet, Set Registers of 16"),
+    (Case::Start, "start"),
+    (Case::Restart, "restart"),
 ];
 
-/// Ticks from the press that stay short of Hold.
+/// Ticks from the press that stay short of Hold; of a press that is a tap; and from its end to the last tick before it counts.
 const BEFORE_HOLD: u64 = 170;
+const TAP: u64 = 60;
+const BEFORE_CLOSE: u64 = 179;
 
-/// Network 1, unit 5, link 3 in the fourth component, dimming capable at rate 15: a fade then outlasts every run.
+/// Switches that are made ready together, so that the making is not timed; together they fit a small cache.
+const BATCH: usize = 50;
+
+/// Network 1, unit 5, link 3 in the fourth component, dimming capable at rate 15: a fade then outlasts every run. Each paddle has a
+/// link, and sends three bytes on a tap.
 fn image() -> [u8; 256] {
     let mut image = [0; 256];
     image[0x00..0x04].copy_from_slice(&[1, 5, 0x12, 0x34]);
     image[0x49..0x4C].copy_from_slice(&[3, 50, 15]);
+    image[0x70..0x7A].copy_from_slice(&[7, 0, 0, 0, 0, 8, 1, 1, 1, 1]);
+    image[0x7A..0x82].copy_from_slice(&[100, 15, 100, 15, 0, 15, 0, 15]);
     image[0x8B] = 0x09;
     image[0x8D] = 0x1F;
+    image[0x90..0x96].copy_from_slice(&[0x22, 100, 5, 0x22, 0, 5]);
     image[0xF9] = 40;
     image
 }
@@ -86,55 +129,136 @@ fn packet(link: bool, network: u8, destination: u8, message: &[u8]) -> Vec<u8> {
     bytes
 }
 
+/// The packet of a case.
+fn asked(case: Case) -> Vec<u8> {
+    match case {
+        Case::Goto => packet(true, 1, 3, &[0x22, 50, 0]),
+        Case::Get => packet(false, 1, 5, &[0x10, 0x40, 16]),
+        Case::Refused => packet(false, 2, 5, &[0x30]),
+        Case::Set => {
+            let message: Vec<u8> = [0x11, 0x10].into_iter().chain(1..=16).collect();
+            packet(false, 1, 5, &message)
+        }
+        _ => Vec::new(),
+    }
+}
+
+/// Both paddles, or one, tapped `taps` times, up to the last tick before the taps count.
+fn tapped<P: Player>(switch: &mut P, contacts: &[u8], taps: u64) {
+    let mut out = [0; 48];
+    for _ in 0..taps {
+        contacts
+            .iter()
+            .for_each(|contact| _ = switch.press(*contact, &mut out));
+        (0..TAP).for_each(|_| _ = switch.tick(&mut out));
+        contacts
+            .iter()
+            .for_each(|contact| _ = switch.release(*contact, &mut out));
+        (0..TAP).for_each(|_| _ = switch.tick(&mut out));
+    }
+    (TAP..BEFORE_CLOSE).for_each(|_| _ = switch.tick(&mut out));
+}
+
 /// The switch at the beginning of a case: past its version blinks, nothing running but what the case is about.
 pub fn ready<P: Player>(case: Case) -> P {
     let mut out = [0; 48];
     let mut switch = P::start(&image());
-    for _ in 0..600 {
-        switch.tick(&mut out);
-    }
+    (0..600).for_each(|_| _ = switch.tick(&mut out));
     match case {
-        Case::Fading => switch.receive(&packet(false, 1, 5, &[0x22, 100, 15]), &mut out),
-        Case::Down => switch.press(0, &mut out),
+        Case::Fading => _ = switch.receive(&packet(false, 1, 5, &[0x22, 100, 15]), &mut out),
+        Case::Down => _ = switch.press(0, &mut out),
+        Case::BothSend => tapped(&mut switch, &[0, 1], 1),
+        Case::Factory | Case::Set => {
+            _ = switch.receive(&packet(false, 1, 5, &[3, 0x12, 0x34]), &mut out)
+        }
         _ => {}
     }
+    if case == Case::Factory {
+        tapped(&mut switch, &[0], 10);
+    }
+    shows::<P>(case, &switch);
     switch
 }
 
-/// `count` events of the case, from the state that `ready` gives.
-pub fn play<P: Player>(case: Case, from: &P, count: u64) {
-    let mut out = [0; 48];
-    let mut switch = from.clone();
-    match case {
-        Case::Idle | Case::Fading => {
-            for _ in 0..count {
-                switch.tick(&mut out);
-            }
+/// The event of the case is the one it says: its number, packets and mode.
+fn shows<P: Player>(case: Case, from: &P) {
+    let (mut switch, mut out) = (from.clone(), [0; 48]);
+    let answer = match case {
+        Case::Goto | Case::Get | Case::Refused | Case::Set => {
+            switch.receive(&asked(case), &mut out)
         }
-        Case::Down => {
-            for _ in 0..count / BEFORE_HOLD {
-                switch = from.clone();
-                for _ in 0..BEFORE_HOLD {
-                    switch.tick(&mut out);
-                }
-            }
-        }
-        Case::Goto => send(&mut switch, &packet(true, 1, 3, &[0x22, 50, 0]), count),
-        Case::Get => send(&mut switch, &packet(false, 1, 5, &[0x10, 0x40, 16]), count),
-        Case::Refused => send(&mut switch, &packet(false, 2, 5, &[0x30]), count),
-        Case::Edge => {
-            for _ in 0..count / 2 {
-                switch.press(0, &mut out);
-                switch.release(0, &mut out);
-            }
-        }
-    }
-    black_box(&switch);
+        Case::Edge => switch.press(0, &mut out),
+        Case::Restart => switch.restart(&mut out),
+        _ => switch.tick(&mut out),
+    };
+    let (normal, setup, factory) = (0, 1, 2);
+    let expected = match case {
+        Case::Get => [0, 1, normal],
+        Case::Refused => [9, 0, normal],
+        Case::BothSend => [0, 2, normal],
+        Case::Factory => [0, 0, factory],
+        Case::Set => [0, 0, setup],
+        _ => [0, 0, normal],
+    };
+    assert_eq!(P::told(&answer), expected);
 }
 
-fn send<P: Player>(switch: &mut P, packet: &[u8], count: u64) {
-    let mut out = [0; 48];
-    for _ in 0..count {
-        switch.receive(black_box(packet), &mut out);
+/// Plays `count` events of the case from the state that `ready` gives; the time that they took. With `act` false only what has to be
+/// made ready for them is done.
+pub fn play<P: Player>(case: Case, from: &P, count: u64, act: bool) -> Duration {
+    let events = if act { count } else { 0 };
+    match case {
+        Case::Idle | Case::Fading => steady(from, events, |switch, out| _ = switch.tick(out)),
+        Case::Down => (0..count / BEFORE_HOLD)
+            .map(|_| {
+                steady(from, events.min(BEFORE_HOLD), |switch, out| {
+                    _ = switch.tick(out)
+                })
+            })
+            .sum(),
+        Case::Goto | Case::Get | Case::Refused | Case::Set => {
+            let packet = asked(case);
+            steady(from, events, |switch, out| _ = switch.receive(&packet, out))
+        }
+        Case::Edge => steady(from, events / 2, |switch, out| {
+            switch.press(0, out);
+            switch.release(0, out);
+        }),
+        Case::BothSend | Case::Factory => once(from, count, act),
+        Case::Start => {
+            let image = image();
+            steady(from, events, |switch, _| *switch = P::start(&image))
+        }
+        Case::Restart => steady(from, events, |switch, out| _ = switch.restart(out)),
     }
+}
+
+/// An event that can follow itself, on one switch.
+fn steady<P: Player>(from: &P, count: u64, event: impl Fn(&mut P, &mut [u8])) -> Duration {
+    let (mut switch, mut out) = (from.clone(), [0; 48]);
+    let begun = Instant::now();
+    for _ in 0..count {
+        event(&mut switch, &mut out);
+    }
+    let spent = begun.elapsed();
+    black_box(&switch);
+    spent
+}
+
+/// A tick that comes once: each on a switch of its own.
+fn once<P: Player>(from: &P, count: u64, act: bool) -> Duration {
+    let (mut batch, mut out) = (vec![from.clone(); BATCH], [0; 48]);
+    let mut spent = Duration::ZERO;
+    for _ in 0..count / BATCH as u64 {
+        batch.iter_mut().for_each(|switch| switch.clone_from(from));
+        black_box(&mut batch);
+        let begun = Instant::now();
+        if act {
+            batch
+                .iter_mut()
+                .for_each(|switch| _ = switch.tick(&mut out));
+        }
+        spent += begun.elapsed();
+    }
+    spent
 }
