@@ -1,10 +1,11 @@
 // Plays a script on a switch: the file that the first argument names, or standard input, line by line to standard output.
 use desk::play;
 use desk::play::Desk;
-use desk::play::Turn;
 use desk::play::same;
+use libc::STDERR_FILENO;
 use libc::STDIN_FILENO;
 use libc::STDOUT_FILENO;
+use line::read::Line;
 use line::read::read;
 use line::write;
 use line::write::front;
@@ -27,18 +28,26 @@ const FULL: usize = 63488;
 // More than any row takes.
 const ROW: usize = 256;
 
-// How far a script has come: the desk, the place on the page, the lines so far, and the bytes of the line that is being collected.
+// What goes out: the place of the next byte on the page, and whether every page so far was taken. Once one was not, no more is written.
+struct Out {
+    at: usize,
+    taken: bool,
+}
+
+// How far a script has come: the desk, what goes out, the lines so far, how many of them did not read, and the bytes of the line
+// that is being collected.
 struct Script {
     desk: Desk,
-    at: usize,
+    out: Out,
     lines: u64,
+    unread: u64,
     size: usize,
 }
 
-// Ticks under way: the desk, the place on the page, and the last run with the length of its row.
+// Ticks under way: the desk, what goes out, and the last run with the length of its row.
 struct Ticking {
     desk: Desk,
-    at: usize,
+    out: Out,
     run: u64,
     size: usize,
 }
@@ -63,7 +72,7 @@ fn main() {
     libc::close(fd);
 }
 
-// The whole script. The turns count down from a number that no script uses up.
+// The whole script, or as much of it as could be read and answered. The turns count down from a number that no script uses up.
 fn run(fd: i32, name: &[u8]) {
     let mut input = [0u8; BLOCK];
     let mut line = [0u8; LINE];
@@ -72,8 +81,9 @@ fn run(fd: i32, name: &[u8]) {
     let mut page = [0u8; BLOCK];
     let mut script = Script {
         desk: Desk::empty(),
-        at: 0,
+        out: Out { at: 0, taken: true },
         lines: 0,
+        unread: 0,
         size: 0,
     };
     let mut turns = u64::MAX;
@@ -91,12 +101,16 @@ fn run(fd: i32, name: &[u8]) {
             &mut buffer,
             &mut page,
         );
+        if !script.out.taken {
+            break;
+        }
         turns -= 1;
     }
     if 0 < script.size {
         script = perform(script, &line, &mut all, &mut buffer, &mut page);
     }
-    print(&page, script.at);
+    print(&page, script.out);
+    report(script.unread);
 }
 
 // The next block of the script, and how many bytes it has: none at its end.
@@ -129,7 +143,23 @@ fn part(
         }
         i += 1;
     }
-    next
+    print_short(next, count, page)
+}
+
+// After a block that is not full the writer of the script may be waiting, as at a terminal: what is answered so far goes out.
+fn print_short(script: Script, count: usize, page: &[u8; BLOCK]) -> Script {
+    if count == BLOCK {
+        return script;
+    }
+    let out = print(page, script.out);
+    let desk = script.desk;
+    Script {
+        desk,
+        out,
+        lines: script.lines,
+        unread: script.unread,
+        size: script.size,
+    }
 }
 
 // One byte more of a line. Of a line that is too long only as much is kept as shows that it is.
@@ -152,6 +182,7 @@ fn perform(
     let mut bytes = [0u8; HEX];
     let lines = more(script.lines);
     let said = read(front(line, script.size), &mut bytes);
+    let before = script.out;
     let turn = play::play(
         said,
         lines,
@@ -160,44 +191,65 @@ fn perform(
         all,
         buffer,
         page,
-        script.at,
+        before.at,
     );
-    let after = ticks(play::ticks(said, turn.desk), turn, all, buffer, page);
-    let desk = after.desk;
-    Script {
+    let desk = turn.desk;
+    let out = Out {
+        at: turn.at,
+        taken: before.taken,
+    };
+    let start = Ticking {
         desk,
-        at: print_full(page, after.at),
+        out,
+        run: 0,
+        size: 0,
+    };
+    let end = ticks(play::ticks(said, desk), start, all, buffer, page);
+    let after = end.desk;
+    let last = print_full(page, end.out);
+    Script {
+        desk: after,
+        out: last,
         lines,
+        unread: missed(said, script.unread),
         size: 0,
     }
+}
+
+// The lines that did not read, this one counted.
+fn missed(said: Line, unread: u64) -> u64 {
+    let Line::Unread = said else {
+        return unread;
+    };
+    more(unread)
 }
 
 // So many ticks, and the lines of their runs.
 fn ticks(
     count: u32,
-    turn: Turn,
+    start: Ticking,
     all: &mut [u8; 256],
     buffer: &mut [u8; BUFFER],
     page: &mut [u8; BLOCK],
-) -> Turn {
+) -> Ticking {
     let mut last = [0u8; ROW];
     let mut row = [0u8; ROW];
-    let desk = turn.desk;
-    let mut ticking = Ticking {
-        desk,
-        at: turn.at,
-        run: 0,
-        size: 0,
-    };
+    let mut ticking = start;
     let mut left = count;
     while 0 < left {
         ticking = tick(ticking, all, buffer, &mut last, &mut row, page);
+        if !ticking.out.taken {
+            break;
+        }
         left -= 1;
     }
-    let after = ticking.desk;
-    Turn {
-        desk: after,
-        at: close(ticking, &last, page),
+    let desk = ticking.desk;
+    let out = close(ticking, &last, page);
+    Ticking {
+        desk,
+        out,
+        run: 0,
+        size: 0,
     }
 }
 
@@ -213,30 +265,35 @@ fn tick(
     let turn = play::tick(ticking.desk, all, buffer, row);
     let desk = turn.desk;
     if same(front(row, turn.at), front(last, ticking.size)) {
+        let out = ticking.out;
         return Ticking {
             desk,
-            at: ticking.at,
+            out,
             run: more(ticking.run),
             size: ticking.size,
         };
     }
     let closed = close(ticking, last, page);
-    let at = print_full(page, closed);
+    let out = print_full(page, closed);
     *last = *row;
     Ticking {
         desk,
-        at,
+        out,
         run: 1,
         size: turn.at,
     }
 }
 
 // The line of a run, where there is one.
-fn close(ticking: Ticking, last: &[u8; ROW], page: &mut [u8; BLOCK]) -> usize {
+fn close(ticking: Ticking, last: &[u8; ROW], page: &mut [u8; BLOCK]) -> Out {
+    let out = ticking.out;
     if ticking.run == 0 {
-        return ticking.at;
+        return out;
     }
-    write::run(page, ticking.at, ticking.run, front(last, ticking.size))
+    Out {
+        at: write::run(page, out.at, ticking.run, front(last, ticking.size)),
+        taken: out.taken,
+    }
 }
 
 // One more; it stops at the largest number.
@@ -247,18 +304,35 @@ fn more(n: u64) -> u64 {
     n
 }
 
-// Writes a page out that is nearly full, and answers the place where the next byte goes.
-fn print_full(page: &[u8; BLOCK], at: usize) -> usize {
-    if at <= FULL {
-        return at;
+// Writes a page out that is nearly full.
+fn print_full(page: &[u8; BLOCK], out: Out) -> Out {
+    if out.at <= FULL {
+        return out;
     }
-    print(page, at);
-    0
+    print(page, out)
 }
 
-fn print(page: &[u8; BLOCK], at: usize) {
-    let written = io::write_all(STDOUT_FILENO, front(page, at));
-    if !written {
+// Writes a page out, and says so where it is not taken.
+fn print(page: &[u8; BLOCK], out: Out) -> Out {
+    if !out.taken {
+        return Out {
+            at: 0,
+            taken: false,
+        };
+    }
+    let taken = io::write_all(STDOUT_FILENO, front(page, out.at));
+    if !taken {
         os::fail(b"standard output");
     }
+    Out { at: 0, taken }
+}
+
+// Says on standard error how many lines did not read, where there are any. `./drive` knows its status by these words.
+fn report(unread: u64) {
+    if unread == 0 {
+        return;
+    }
+    io::write_all(STDERR_FILENO, b"lines that do not read: ");
+    io::print_decimal(STDERR_FILENO, unread);
+    io::write_all(STDERR_FILENO, b"\n");
 }

@@ -38,6 +38,9 @@ loop-less c = search needs
 loop-again : tie.Need-loop-again Inv-loop μ-loop
 loop-again c = tt
 
+print-short-requires : tie.Need-print-short-requires Inv-loop μ-loop
+print-short-requires c κs = search needs
+
 returns : tie.Need-returns Inv-loop μ-loop
 returns c = search needs
 
@@ -56,4 +59,5 @@ part-spec =
     add-i
     loop-less
     loop-again
+    print-short-requires
     returns)

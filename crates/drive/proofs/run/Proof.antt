@@ -36,6 +36,9 @@ perform-requires c κs = search needs
 print-requires : tie.Need-print-requires Inv-loop μ-loop
 print-requires c κs = search needs
 
+report-requires : tie.Need-report-requires Inv-loop μ-loop
+report-requires c κs = search needs
+
 returns : tie.Need-returns Inv-loop μ-loop
 returns c = search needs
 
@@ -54,4 +57,5 @@ run-spec =
     loop-again
     perform-requires
     print-requires
+    report-requires
     returns)
