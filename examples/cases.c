@@ -120,7 +120,7 @@ static int busy(struct melszondru *s)
 static int case_refused(void)
 {
     static const size_t lengths[] = {0, 1, 255, 257};
-    static const struct melszondru_answer one = {MELSZONDRU_NO_IMAGE, 0, 0, 0, 0, 0, 0, 0};
+    static const struct melszondru_answer one = {MELSZONDRU_WRONG_IMAGE, 0, 0, 0, 0, 0, 0, 0};
     struct melszondru s, before;
     int well = busy(&s);
     before = s;

@@ -60,26 +60,26 @@ enum {
 /* The answer's number. */
 enum {
     MELSZONDRU_DONE = 0,
-    MELSZONDRU_NO_IMAGE = 1,        /* the image is not 256 bytes */
-    MELSZONDRU_NO_ROOM = 2,         /* the buffer is shorter than 48 bytes */
-    MELSZONDRU_NO_CONTACT = 3,      /* the contact is above 3 */
-    MELSZONDRU_TOO_SHORT = 4,       /* the packet is under 7 bytes */
-    MELSZONDRU_TOO_LONG = 5,        /* it is over 24 bytes */
-    MELSZONDRU_OTHER_LENGTH = 6,    /* it says another length than it has */
-    MELSZONDRU_WRONG_SUM = 7,       /* its bytes do not add up to 0 modulo 256 */
-    MELSZONDRU_RESERVED_BIT = 8,    /* bit 7 of its byte 1 is set */
-    MELSZONDRU_OTHER_NETWORK = 9,   /* its network is not register 0x00's, and not 0, which is for all */
-    MELSZONDRU_OTHER_UNIT = 10,     /* it is for another unit (register 0x01; 0 is for all), or for a link that no component has */
-    MELSZONDRU_NO_COMMAND = 11,     /* no such command */
-    MELSZONDRU_WRONG_ARGUMENTS = 12, /* the command is there, its arguments do not fit, or its registers go past 0xFF */
-    MELSZONDRU_NOT_PERMITTED = 13,  /* not for this kind of packet, this destination, this mode, this load or source 0 */
-    MELSZONDRU_WRONG_PASSWORD = 14  /* of a Start Setup */
+    MELSZONDRU_WRONG_IMAGE = 1,        /* the image is not 256 bytes */
+    MELSZONDRU_SHORT_BUFFER = 2,       /* the buffer is shorter than 48 bytes */
+    MELSZONDRU_NO_CONTACT = 3,         /* the contact is above 3 */
+    MELSZONDRU_SHORT_PACKET = 4,       /* the packet is under 7 bytes */
+    MELSZONDRU_LONG_PACKET = 5,        /* it is over 24 bytes */
+    MELSZONDRU_WRONG_LENGTH = 6,       /* it says another length than it has */
+    MELSZONDRU_WRONG_SUM = 7,          /* its bytes do not add up to 0 modulo 256 */
+    MELSZONDRU_RESERVED_BIT = 8,       /* bit 7 of its byte 1 is set */
+    MELSZONDRU_OTHER_NETWORK = 9,      /* its network is not register 0x00's, and not 0, which is for all */
+    MELSZONDRU_OTHER_DESTINATION = 10, /* it is for another unit (register 0x01; 0 is for all), or a link that no component has */
+    MELSZONDRU_NO_COMMAND = 11,        /* no such command */
+    MELSZONDRU_WRONG_ARGUMENTS = 12,   /* the command is there, its arguments do not fit, or its registers go past 0xFF */
+    MELSZONDRU_NOT_HERE = 13,          /* it is not for this kind of packet, this destination, this mode, this load or source 0 */
+    MELSZONDRU_WRONG_PASSWORD = 14     /* of a Start Setup */
 };
 
 /* The lamp. */
 enum { MELSZONDRU_BLACK = 0, MELSZONDRU_RED = 1, MELSZONDRU_GREEN = 2, MELSZONDRU_ORANGE = 3 };
 
-enum { MELSZONDRU_NORMAL = 0, MELSZONDRU_SETUP = 1, MELSZONDRU_FACTORY_DEFAULT = 2 };
+enum { MELSZONDRU_NORMAL = 0, MELSZONDRU_SETUP = 1, MELSZONDRU_FACTORY = 2 /* Factory Default */ };
 
 /* All that a switch holds. Its arrays are written by melszondru_start and by the events, and by nobody else; they may be copied
  * and put back as a whole. The password is in numbers[12] and numbers[13], and not among the registers: registers[2] and
@@ -96,7 +96,7 @@ struct melszondru {
  * count    the packets sent, 0 to 2; first and second their lengths, 0 where there is none
  * level    the level in steps, 0 to 200 of a switch that was started; output what the output shows of it
  * colour   the lamp, MELSZONDRU_BLACK to MELSZONDRU_ORANGE
- * mode     MELSZONDRU_NORMAL to MELSZONDRU_FACTORY_DEFAULT
+ * mode     MELSZONDRU_NORMAL to MELSZONDRU_FACTORY
  *
  * On a refusal (number above 0) nothing is sent, so count, first and second are 0; the switch is as it was, but for the lamp's
  * black blink that 4 to 8 start, and the rest of the answer shows it so. On 1 the rest is 0: a refused start shows no switch. */

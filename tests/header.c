@@ -43,8 +43,8 @@ static int others(void)
     static const uint8_t asks[] = {0x07, 0x00, 0x01, 0x05, 0x09, 0x30, 0xBA};
     struct melszondru_answer answer = melszondru_receive(&one, asks, sizeof asks, out, sizeof out);
     WANT(answer.number == MELSZONDRU_DONE && answer.count == 1 && answer.mode == MELSZONDRU_NORMAL);
-    WANT(melszondru_receive(&one, asks, 6, out, sizeof out).number == MELSZONDRU_TOO_SHORT);
-    WANT(melszondru_tick(&one, out, sizeof out - 1).number == MELSZONDRU_NO_ROOM);
+    WANT(melszondru_receive(&one, asks, 6, out, sizeof out).number == MELSZONDRU_SHORT_PACKET);
+    WANT(melszondru_tick(&one, out, sizeof out - 1).number == MELSZONDRU_SHORT_BUFFER);
     WANT(melszondru_press(&one, 4, out, sizeof out).number == MELSZONDRU_NO_CONTACT);
     WANT(melszondru_restart(&one, out, sizeof out).colour == MELSZONDRU_RED);
     melszondru_image(&one, again);
@@ -60,7 +60,7 @@ int main(void)
     memcpy(image + 0x70, "\x07\x0E\x0E\x0E\x0E\x08\x00\x00\x00\x00", 10); /* the level by link 7, a Goto by link 8 */
     memcpy(image + 0x90, "\x22\x64\x03", 3);
     image[0x8D] = 0x13;
-    WANT(melszondru_start(&one, image, 255).number == MELSZONDRU_NO_IMAGE);
+    WANT(melszondru_start(&one, image, 255).number == MELSZONDRU_WRONG_IMAGE);
     WANT(melszondru_start(&one, image, sizeof image).number == MELSZONDRU_DONE);
     line = two_packets();
     return line ? line : others();
