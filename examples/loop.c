@@ -12,10 +12,10 @@
  * value 8 changes 0xF9 at every save, 43,200 times a day, until something else sets the level; Goto and Store Preset in turns
  * change a preset with every second packet. Where a place of flash stands 10,000 erasures and 0xF9 changes at every save, it lasts
  *
- *                                                 written at once    at most once a minute
- *     where each image takes an erasure           5.6 hours          6.9 days
- *     where 16 images are laid into 4 KB first    3.7 days           111 days
- *     the same over 16 such sectors in turn       59 days            4.9 years
+ *                                                             written at once    at most once a minute
+ *     where each image takes an erasure                       5.6 hours          6.9 days
+ *     where 15, with a number and a sum, fill 4 KB first      3.5 days           104 days
+ *     the same over 16 such sectors in turn                   56 days            4.6 years
  *
  * So `save` writes at once only what it finds changed after a change of mode (which takes the password or a paddle; what was set in
  * Setup is then written at its end), and else at most once in APART. A power cut may then lose the changes of up to APART. Memory
