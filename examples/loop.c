@@ -9,7 +9,7 @@
  *     changes it once or twice;
  *   - with Set Registers in Setup, with Store Preset, and on entering Factory Default.
  * Level commands and Store Preset need no password, so whoever reaches the line can change the image at will: one Blink packet of
- * value 8 changes 0xF9 at every save, 43,200 times a day, until something else sets the level; Goto and Store Preset in turns
+ * value 8 changes 0xF9 at every save, 43,200 times a day, until something ends it; Goto and Store Preset in turns
  * change a preset with every second packet. Where a place of flash stands 10,000 erasures and 0xF9 changes at every save, it lasts
  *
  *                                                             written at once    at most once a minute
@@ -17,9 +17,9 @@
  *     where 15, with a number and a sum, fill 4 KB first      3.5 days           104 days
  *     the same over 16 such sectors in turn                   56 days            4.6 years
  *
- * So `save` writes at once only what it finds changed after a change of mode (which takes the password or a paddle; what was set in
- * Setup is then written at its end), and else at most once in APART. A power cut may then lose the changes of up to APART. Memory
- * without wear (FRAM) needs none of this. */
+ * So `save` writes at once only what it finds changed after a change of mode (into Setup that takes the password or a paddle; what
+ * was set there is then written at its end), and else at most once in APART. A power cut may then lose the changes of up to APART.
+ * Memory without wear (FRAM) needs none of this. */
 #include <stdio.h>
 #include <string.h>
 
