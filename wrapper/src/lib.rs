@@ -63,7 +63,8 @@ pub const PLACE: usize = 24;
 /// One switch: its registers, its password, and all that runs in it.
 ///
 /// Two switches are equal where they stand for the same switch: the same registers and password, the same mode, level, Last On
-/// Level, motion, lamp, paddles and ticks to the next save. What an ended fade or blink left behind in memory does not count.
+/// Level, motion, paddles and ticks to the next save, and the same lamp, with the colour of its last blink. What an ended motion
+/// left behind in memory does not count.
 ///
 /// The password is in memory and in [`Switch::image`]. `Debug` does not show it:
 ///

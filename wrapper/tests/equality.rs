@@ -29,6 +29,15 @@ fn an_ended_fade_is_as_a_snap() {
     assert_eq!(faded(600), snapped(600));
 }
 
+/// Neither blink is seen any more, and yet the two are not equal: the definitions keep the colour.
+#[test]
+fn the_colour_of_the_last_blink_counts() {
+    let mut black = started(&image());
+    assert_eq!(black.receive(&[], &mut [FILL; ROOM]).number(), 4);
+    let green = told(started(&image()), &[&[0x24]]);
+    assert_ne!(ticked(black, 600), ticked(green, 600));
+}
+
 #[test]
 fn every_register_counts_and_the_password() {
     let switch = started(&image());

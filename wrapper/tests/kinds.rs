@@ -1,4 +1,4 @@
-//! Colours and modes, and the numbers of document 01 that stand for them.
+//! Colours and modes, the numbers of document 01 that stand for them, and what an answer shows.
 
 mod common;
 
@@ -56,6 +56,20 @@ fn an_answer_has_the_mode() {
     let answer = switch.receive(&direct(&[0x30]), &mut out);
     // The factory values have another network.
     assert_eq!((answer.number(), answer.mode()), (9, Mode::Normal));
+}
+
+/// During the flash after a change of mode, and after it.
+#[test]
+fn an_answer_has_the_level_and_the_output() {
+    let mut switch = told(started(&image()), &[&[0x03, 0x12, 0x34]]);
+    let answer = switch.tick(&mut [FILL; ROOM]);
+    assert_eq!((answer.level(), answer.output()), (80, 0));
+    assert_eq!(
+        format!("{answer:?}"),
+        "Answer { number: 0, count: 0, lengths: [0, 0], level: 80, output: 0, colour: Red, mode: Setup }"
+    );
+    let answer = ticked(switch, 120).tick(&mut [FILL; ROOM]);
+    assert_eq!((answer.level(), answer.output()), (80, 80));
 }
 
 /// The mode after so many taps of the top paddle.

@@ -5,11 +5,13 @@ mod common;
 use common::{image, packet, started, FILL};
 use melszondru::{Answer, PLACE, ROOM};
 
-/// Both paddles tapped once together, the top's link 10 and the bottom's 11, each told the percent: two packets at one tick.
+/// Both paddles tapped once together: two packets at one tick. The top tells link 10 the percent, the bottom sends link 11 the
+/// first entry of the command table.
 fn both(out: &mut [u8]) -> Answer {
     let mut image = image();
     image[0x70..0x72].copy_from_slice(&[10, 14]);
-    image[0x75..0x77].copy_from_slice(&[11, 14]);
+    image[0x75..0x77].copy_from_slice(&[11, 0]);
+    image[0x90..0x93].copy_from_slice(&[0x20, 255, 255]);
     image[0x7A..0x82].copy_from_slice(&[100, 0, 100, 0, 100, 0, 100, 0]);
     let mut switch = started(&image);
     switch.press(0, out).done().unwrap();
@@ -32,29 +34,29 @@ fn both(out: &mut [u8]) -> Answer {
 fn two_packets_are_two_slices_in_their_order() {
     let mut out = [0; ROOM + 2];
     let answer = both(&mut out);
-    assert_eq!((answer.count(), answer.lengths()), (2, [8, 8]));
+    assert_eq!((answer.count(), answer.lengths()), (2, [8, 7]));
     let sent: Vec<&[u8]> = answer.packets(&out).collect();
     assert_eq!(
         sent,
         [
             packet(1, 1, 10, 5, &[0x86, 100]),
-            packet(1, 1, 11, 5, &[0x86, 100])
+            packet(1, 1, 11, 5, &[0x20])
         ]
     );
     assert!(std::ptr::eq(sent[0], &out[..8]));
-    assert!(std::ptr::eq(sent[1], &out[PLACE..PLACE + 8]));
+    assert!(std::ptr::eq(sent[1], &out[PLACE..PLACE + 7]));
     assert!(out[8..PLACE].iter().all(|byte| *byte == FILL));
-    assert!(out[PLACE + 8..].iter().all(|byte| *byte == FILL));
+    assert!(out[PLACE + 7..].iter().all(|byte| *byte == FILL));
 }
 
 #[test]
 fn it_knows_how_many_are_left() {
     let mut out = [0; ROOM];
     let mut packets = both(&mut out).packets(&out);
-    for left in [2, 1] {
+    for (left, length) in [(2, 8), (1, 7)] {
         assert_eq!(packets.len(), left);
         assert_eq!(packets.clone().count(), left);
-        assert_eq!(packets.next().map(<[u8]>::len), Some(8));
+        assert_eq!(packets.next().map(<[u8]>::len), Some(length));
     }
     for _ in 0..3 {
         assert_eq!((packets.len(), packets.next()), (0, None));
@@ -74,7 +76,7 @@ fn nothing_sent_is_no_packet() {
 fn a_packet_that_is_not_within_the_buffer_is_left_out() {
     let mut out = [0; ROOM];
     let answer = both(&mut out);
-    for (length, count) in [(0, 0), (7, 0), (8, 1), (24, 1), (31, 1), (32, 2), (48, 2)] {
+    for (length, count) in [(0, 0), (7, 0), (8, 1), (24, 1), (30, 1), (31, 2), (48, 2)] {
         assert_eq!(answer.packets(&out[..length]).count(), count, "{length}");
     }
 }

@@ -31,8 +31,12 @@ fn switches(password: [u8; 2]) -> Vec<Switch> {
     ]
 }
 
-fn shown(switch: &Switch) -> [String; 2] {
-    [format!("{switch:?}"), format!("{switch:#?}")]
+fn shown(switch: &Switch) -> [String; 3] {
+    [
+        format!("{switch:?}"),
+        format!("{switch:#?}"),
+        format!("{switch:02X?}"),
+    ]
 }
 
 #[test]

@@ -99,6 +99,7 @@ fn a_refusal_shows_the_switch_as_it_stands() {
     let answer = switch.receive(&direct(&[0x03, 0x12, 0x34]), &mut [FILL; ROOM]);
     assert_eq!(answer.refusal(), Some(Refusal::NotHere));
     assert_eq!(shown(answer), stands);
+    assert!(format!("{answer:?}").starts_with("Answer { number: 13, count: 0, "));
 }
 
 #[test]
