@@ -7,7 +7,7 @@
 
 /// What a start or an event is answered with.
 ///
-/// On a refusal nothing was sent; level, output, colour and mode are those that the switch still has.
+/// On a refusal nothing was sent; level, output, colour and mode show the switch after it.
 ///
 /// ```
 /// use melszondru::{Colour, Mode, Refusal, Switch};
