@@ -18,7 +18,7 @@ pub trait Player: Clone {
 }
 
 macro_rules! player {
-    ($home:ident) => {
+    ($home:ident, $told:expr) => {
         impl Player for $home::Switch {
             type Answer = $home::Answer;
             fn start(image: &[u8; 256]) -> Self {
@@ -51,14 +51,15 @@ macro_rules! player {
                 black_box(answer)
             }
             fn told(answer: &Self::Answer) -> [u8; 3] {
-                [answer.number, answer.count, answer.mode as u8]
+                let told: fn(&$home::Answer) -> [u8; 3] = $told;
+                told(answer)
             }
         }
     };
 }
 
-player!(melszondru);
-player!(reference);
+player!(melszondru, |a| [a.number(), a.count() as u8, a.mode().into()]);
+player!(reference, |a| [a.number, a.count, a.mode as u8]);
 
 #[derive(Clone, Copy, PartialEq, Eq)]
 pub enum Case {
