@@ -23,7 +23,8 @@ use Rattle.post.specs.declared.Message.the-variants.{Empty, One, Two, Th
 use Rattle.post.specs.declared.Note.{Note}
 use Rattle.post.specs.declared.Reply.{Reply}
 use Rattle.post.specs.declared.Reply.the-variants.{Silence, Status, Registers}
-use Rattle.post.specs.Post.{header, headed, enveloped, bytesOf, gestureMessage, announced, valuesFrom, replyMessage, replied, placedOne, place, placed}
+use Rattle.post.specs.Post.{header, headed, enveloped, bytesOf, gestureMessage, announced, valuesFrom, replyMessage, replied, placedOne, placed}
+use Rattle.model.specs.Model.{place}
 use Rattle.post.specs.Code.{note, noNote, noteOf, noteHeader, sentOf, front, laidLength, Laid, placedAt, NoteSent, LaysOneWay, NotesInOrder}
 use Rattle.registers.proofs.Laws.{range-length}
 

@@ -16,7 +16,8 @@ use Rattle.packet.proofs.Laws.{packed-length, message-length}
 use Rattle.packet.proofs.Inverse.{reads-back, worked}
 use Rattle.paddle.specs.declared.Gesture.{Gesture}
 use Rattle.paddle.specs.declared.Gesture.the-variants.{Nothing, Taps}
-use Rattle.registers.specs.Places.{networkIn, unitIn, transmitPlace, transmitIn, entryPlace, entryIn}
+use Rattle.registers.specs.Places.{networkIn, unitIn, transmitIn, entryPlace, entryIn}
+use Rattle.model.specs.Model.{transmitPlace}
 use Rattle.registers.specs.Registers.{apart, valid}
 use Rattle.registers.specs.declared.Seen.{Seen}
 use Rattle.post.specs.declared.Reply.{Reply}

@@ -17,7 +17,8 @@ use Rattle.registers.specs.declared.Seen.{Seen}
 use Rattle.post.specs.declared.Message.{Message}
 use Rattle.post.specs.declared.Message.the-variants.{Empty}
 use Rattle.post.specs.declared.Note.{Note}
-use Rattle.post.specs.Post.{header, enveloped, bytesOf, gestureMessage, placedOne, place, announced, replied, placed}
+use Rattle.post.specs.Post.{header, enveloped, bytesOf, gestureMessage, placedOne, announced, replied, placed}
+use Rattle.model.specs.Model.{place}
 use Rattle.post.specs.declared.Reply.the-variants.{Status}
 
 -- A link packet still to be laid.

@@ -8,6 +8,7 @@ use Rattle.words.specs.Words.{if_then_else_}
 use Rattle.units.specs.declared.Percent.{Percent}
 use Rattle.vault.specs.declared.Mode.{Mode}
 use Rattle.vault.specs.declared.Mode.the-variants.{Normal, Setup, Factory}
+use Rattle.model.specs.Model.{place}
 use Rattle.packet.specs.Layout.{packed}
 use Rattle.packet.specs.declared.Header.{Header}
 use Rattle.paddle.specs.declared.Gesture.{Gesture}
@@ -125,10 +126,6 @@ replied all seen to reply percent = enveloped (headed all false to) (replyMessag
 -- 01, Events and time, 6: a place with a packet laid at its front; the bytes behind it are kept, and all of them if it does not fit.
 unfoldable pub placedOne : List ℕ → List ℕ → List ℕ
 placedOne p before = if ltb (length before) (length p) then before else p ++ drop (length p) before
-
--- 01, Events and time, 5: the bytes of a place.
-abbrev pub place : ℕ
-place = 24
 
 -- 01, Events and time, 6: a buffer with the first packet in the first place, the next in the next.
 unfoldable pub placed : List (List ℕ) → List ℕ → List ℕ

@@ -35,7 +35,8 @@ use Rattle.paddle.specs.declared.Gesture.the-variants.{Hold, Nothing, Release, 
 use Rattle.paddle.specs.declared.Paddle.{Paddle}
 use Rattle.paddle.proofs.Laws as paddle
 use Rattle.paddle.specs.Code.{completesNothing, due, pressFor, gestureFor}
-use Rattle.registers.specs.Places.{actionPlace, dimmingIn, doubleIn, entryIn, entryPlace, singleIn, transmitIn, transmitPlace}
+use Rattle.registers.specs.Places.{dimmingIn, doubleIn, entryIn, entryPlace, singleIn, transmitIn}
+use Rattle.model.specs.Model.{actionPlace, transmitPlace}
 use Rattle.registers.specs.Write.{applied}
 use Rattle.registers.specs.declared.write.Write.{Write}
 use Rattle.registers.specs.declared.write.Write.the-variants.{Factory as FactoryValues, Nothing as Unwritten}

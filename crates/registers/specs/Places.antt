@@ -5,6 +5,7 @@ use mathlib.Core.List.{List}
 use Prim.Native.Nat.{ℕ, _+_, _*_, _%_}
 use lib.Dec.{eqb}
 use lib.ListN.{getD}
+use Rattle.model.specs.Model.{transmitPlace, actionPlace}
 use Rattle.registers.specs.declared.places.Component.{Component}
 use Rattle.registers.specs.declared.places.Transmit.{Transmit}
 use Rattle.registers.specs.declared.places.Action.{Action}
@@ -65,14 +66,6 @@ componentIn all i =
       rate = getD all (linkPlace i + 2) 0;
     }
 
--- 01, Registers, 3: two paddles; number 0 is the top, 1 the bottom.
-abbrev pub paddles : ℕ
-paddles = 2
-
--- 01, Registers, 3: where a paddle's transmit component begins; each has five bytes.
-abbrev pub transmitPlace : ℕ → ℕ
-transmitPlace paddle = 0x70 + 5 * (paddle % paddles)
-
 -- 01, Registers, 3: a paddle's transmit component: its link, and a command number for each of four gestures.
 unfoldable pub transmitIn : List ℕ → ℕ → Transmit
 transmitIn all paddle =
@@ -83,10 +76,6 @@ transmitIn all paddle =
       hold = getD all (transmitPlace paddle + 3) 0;
       release = getD all (transmitPlace paddle + 4) 0;
     }
-
--- 01, Registers, 4: where a paddle's two actions begin, each a level with its rate.
-abbrev pub actionPlace : ℕ → ℕ
-actionPlace paddle = 0x7A + 4 * (paddle % paddles)
 
 -- 01, Registers, 4: the action of a paddle's single tap, the first of its two.
 unfoldable pub singleIn : List ℕ → ℕ → Action

@@ -1,7 +1,7 @@
 // Where everything stands among the registers: each named place is read by one function.
 ghost use mathlib.Core.Path.{_≡_};
-ghost use Rattle.registers.specs.Places.{networkIn, unitIn, digitIn, linkPlace, levelPlace, componentIn, transmitPlace, transmitIn};
-ghost use Rattle.registers.specs.Places.{actionPlace, singleIn, doubleIn, lightIn, dimmingIn, entryPlace, entryIn, savedIn, counterPlace};
+ghost use Rattle.registers.specs.Places.{networkIn, unitIn, digitIn, linkPlace, levelPlace, componentIn, transmitIn};
+ghost use Rattle.registers.specs.Places.{singleIn, doubleIn, lightIn, dimmingIn, entryPlace, entryIn, savedIn, counterPlace};
 
 pub const SIZE: usize = 256;
 
@@ -23,8 +23,6 @@ const DIMMING: usize = 0x8D;
 pub const SAVED: usize = 0xF9;
 
 pub const COMPONENTS: u8 = 16;
-
-const PADDLES: u8 = 2;
 
 const ENTRIES: u8 = 14;
 
@@ -105,11 +103,10 @@ pub fn level_place(i: u8) -> usize
     link_place(i) + 1
 }
 
-// Paddle 0 is the top, 1 the bottom; past these they count on from the top.
 pub fn transmit_of(all: &[u8; 256], paddle: u8) -> Transmit
     ensures { λ r. ⌜ r ≡ transmitIn (now (all .entry)) paddle ⌝ }
 {
-    let place = transmit_place(paddle);
+    let place = model::transmit_place(paddle);
     Transmit {
         link: all[place],
         single: all[place + 1],
@@ -119,16 +116,10 @@ pub fn transmit_of(all: &[u8; 256], paddle: u8) -> Transmit
     }
 }
 
-fn transmit_place(paddle: u8) -> usize
-    ensures { λ r. ⌜ r ≡ transmitPlace paddle ⌝ }
-{
-    0x70 + 5 * ((paddle % PADDLES) as usize)
-}
-
 pub fn single(all: &[u8; 256], paddle: u8) -> Action
     ensures { λ r. ⌜ r ≡ singleIn (now (all .entry)) paddle ⌝ }
 {
-    let place = action_place(paddle);
+    let place = model::action_place(paddle);
     Action {
         level: all[place],
         rate: all[place + 1],
@@ -138,17 +129,11 @@ pub fn single(all: &[u8; 256], paddle: u8) -> Action
 pub fn double(all: &[u8; 256], paddle: u8) -> Action
     ensures { λ r. ⌜ r ≡ doubleIn (now (all .entry)) paddle ⌝ }
 {
-    let place = action_place(paddle);
+    let place = model::action_place(paddle);
     Action {
         level: all[place + 2],
         rate: all[place + 3],
     }
-}
-
-fn action_place(paddle: u8) -> usize
-    ensures { λ r. ⌜ r ≡ actionPlace paddle ⌝ }
-{
-    0x7A + 4 * ((paddle % PADDLES) as usize)
 }
 
 pub fn light(all: &[u8; 256]) -> u8

@@ -33,7 +33,8 @@ use Rattle.acts.specs.Core.{opened, unwritten, signalled}
 use Rattle.acts.specs.Orders.{performed}
 use Rattle.acts.specs.declared.Core.{Core}
 use Rattle.acts.specs.declared.Effect.{Effect}
-use Rattle.post.specs.Post.{enveloped, headed, place, placed, replied, replyMessage}
+use Rattle.post.specs.Post.{enveloped, headed, placed, replied, replyMessage}
+use Rattle.model.specs.Model.{place}
 use Rattle.post.specs.declared.Reply.{Reply}
 use Rattle.post.specs.declared.Reply.the-variants as reply
 use Rattle.post.proofs.Laws.{laid-fits, reply-fits, reply-placed, whole-buffer}
