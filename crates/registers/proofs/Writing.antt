@@ -6,7 +6,7 @@ use mathlib.Core.Path.{_≡_, refl, sym, ap, ap₂, _∙_}
 use Prim.Native.Nat.{ℕ, zero, suc, _+_, _-_, _≤_, _<_}
 use native.Mathlib.Omega.{arith}
 use lib.Dec.{eqb, ltb, leb}
-use lib.ListN.{length, getD, length-set, List·getD-eq-default}
+use lib.ListN.{length, getD, set, length-set, List·getD-eq-default}
 use lib.Seq.{getD-set-same, getD-set-other}
 use borrow.Author.Tests.{eqb-true, eqb-false, ne-eqb, lt-ltb, le-ltb, le-leb, lt-leb, ltb-false, leb-false}
 use Rattle.words.proofs.Laws.{both, cases, neither, two-ways}
@@ -41,6 +41,11 @@ counter-plain Restarts = refl
 -- A place past 0x03 is not the password's.
 plain : (k : ℕ) → secondPlace < k → secret k ≡ false
 plain k h = simp (ne-eqb k firstPlace (λ e. omega arith), ne-eqb k secondPlace (λ e. omega arith))
+
+-- Storing a byte past 0x03 and within the registers is writing it.
+pub stored-plain : (place value : ℕ) (all : List ℕ) → secondPlace < place → place < size → stored place value all ≡ set all place value
+unfolding stored
+stored-plain place value all past within = simp (plain place past, lt-ltb place size within)
 
 -- Storing one byte keeps the length, every other place and the password's places; the place itself then holds the byte.
 module _ (place value : ℕ) (all : List ℕ) where

@@ -1,6 +1,6 @@
 // All that may be written to the registers, and the one function that writes it.
 ghost use mathlib.Core.Path.{_≡_};
-ghost use Prim.Native.Nat.{_<_};
+ghost use Prim.Native.Nat.{_+_, _<_, _≤_};
 ghost use lib.ListN.{length};
 ghost use Rattle.vault.specs.Job.{became, changed};
 ghost use Rattle.registers.specs.Write.{applied, byteOf, changeOf, oneMore, factoryAt, factoryBy, stored, valuesBy};
@@ -118,7 +118,29 @@ fn factory_at(place: usize, old: u8) -> u8
     }
 }
 
+// Past the password and within the registers the values are copied as they are; elsewhere each place is looked at.
 fn store_values(first: usize, values: &[u8], all: &mut [u8; 256])
+    requires { ⌜ first < 256 ⌝ }
+    ensures { λ r. ⌜ now (all .exit) ≡ valuesBy (length (now (values .entry))) first (now (values .entry)) (now (all .entry)) ⌝ }
+{
+    if SECOND < first && first + values.len() <= SIZE {
+        return copy(first, values, all);
+    }
+    store_each(first, values, all)
+}
+
+fn copy(first: usize, values: &[u8], all: &mut [u8; 256])
+    requires { ⌜ (3 < first) × (first + length (now values) ≤ 256) ⌝ }
+    ensures { λ r. ⌜ now (all .exit) ≡ valuesBy (length (now (values .entry))) first (now (values .entry)) (now (all .entry)) ⌝ }
+{
+    let mut i = 0;
+    while i < values.len() {
+        all[first + i] = values[i];
+        i += 1;
+    }
+}
+
+fn store_each(first: usize, values: &[u8], all: &mut [u8; 256])
     requires { ⌜ first < 256 ⌝ }
     ensures { λ r. ⌜ now (all .exit) ≡ valuesBy (length (now (values .entry))) first (now (values .entry)) (now (all .entry)) ⌝ }
 {

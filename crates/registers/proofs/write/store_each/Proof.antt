@@ -5,8 +5,8 @@ use native.Mathlib.Omega.{arith}
 use lib.ListN.{length}
 use borrow.Author.Needs.{needs}
 use Rattle.registers.specs.Write.{valuesBy}
-use Rattle.registers.proofs.write.store_values.Statement.{statement}
-use Rattle.registers.proofs.write.store_values.Tie as tie
+use Rattle.registers.proofs.write.store_each.Statement.{statement}
+use Rattle.registers.proofs.write.store_each.Tie as tie
 
 abbrev Inv-loop : tie.InvT-loop
 Inv-loop first values all₀ i₀ all i = (i ≤ length values) × (all ≡ valuesBy i first values all₀)
@@ -42,8 +42,8 @@ returns c =
     let done : c .before .loop .i ≡ length (c .before .before .before .args .values .now) = omega arith in
     c .before .loop .inv .1 ∙ rw done
 
-pub store-values-spec : {M : Type 1} → statement M
-store-values-spec =
+pub store-each-spec : {M : Type 1} → statement M
+store-each-spec =
     tie.close
     (tie.spec
     Inv-loop
