@@ -1,4 +1,5 @@
 pub mod Bytes
+pub mod Factory
 pub mod Finding
 pub mod Laws
 pub mod Order

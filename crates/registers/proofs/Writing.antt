@@ -49,7 +49,7 @@ stored-plain place value all past within = simp (plain place past, lt-ltb place 
 
 -- Storing one byte keeps the length, every other place and the password's places; the place itself then holds the byte.
 module _ (place value : ℕ) (all : List ℕ) where
-  stored-length : length (stored place value all) ≡ length all
+  pub stored-length : length (stored place value all) ≡ length all
   unfolding stored
   stored-length =
       both (λ (l : List ℕ). length l ≡ length all) (secret place) refl
@@ -61,7 +61,7 @@ module _ (place value : ℕ) (all : List ℕ) where
       both (λ (l : List ℕ). getD l k 0 ≡ getD all k 0) (secret place) refl
       (both (λ (l : List ℕ). getD l k 0 ≡ getD all k 0) (ltb place size) (getD-set-other all place k value 0 ne) refl)
 
-  stored-secret : (k : ℕ) → secret k ≡ true → getD (stored place value all) k 0 ≡ getD all k 0
+  pub stored-secret : (k : ℕ) → secret k ≡ true → getD (stored place value all) k 0 ≡ getD all k 0
   unfolding stored
   stored-secret k h =
       cases (λ (l : List ℕ). getD l k 0 ≡ getD all k 0) (secret place) (λ _. refl)
@@ -112,7 +112,7 @@ write-dead write values all h =
     (write-secret write values all firstPlace refl ∙ h .0, write-secret write values all secondPlace refl ∙ h .1)
 
 -- One byte stored, seen from any other place than the password's.
-stored-at : (place value : ℕ) (all : List ℕ) (k new : ℕ) → length all ≡ size → k < size → secret k ≡ false → (k ≡ place → value ≡ new)
+pub stored-at : (place value : ℕ) (all : List ℕ) (k new : ℕ) → length all ≡ size → k < size → secret k ≡ false → (k ≡ place → value ≡ new)
     → getD (stored place value all) k 0 ≡ cond (eqb k place) new (getD all k 0)
 stored-at place value all k new len h other same =
     cases (λ (n : ℕ). getD (stored place value all) k 0 ≡ n) (eqb k place)
@@ -128,7 +128,7 @@ factory-past zero all k h = refl
 factory-past (suc n) all k h =
     stored-other n (factoryAt n (getD (factoryBy n all) n 0)) (factoryBy n all) k (λ e. omega arith) ∙ factory-past n all k (omega arith)
 
-factory-in : (n : ℕ) (all : List ℕ) (k : ℕ) → length all ≡ size → k < n → n ≤ size → secret k ≡ false
+pub factory-in : (n : ℕ) (all : List ℕ) (k : ℕ) → length all ≡ size → k < n → n ≤ size → secret k ≡ false
     → getD (factoryBy n all) k 0 ≡ factoryAt k (getD all k 0)
 unfolding factoryBy
 factory-in zero all k len h top other = absurd (omega arith)

@@ -5,9 +5,9 @@ ghost use Rattle.registers.specs.Places.{singleIn, doubleIn, lightIn, di
 
 pub const SIZE: usize = 256;
 
-const NETWORK: usize = 0x00;
+pub const NETWORK: usize = 0x00;
 
-const UNIT: usize = 0x01;
+pub const UNIT: usize = 0x01;
 
 // The password's two bytes.
 pub const FIRST: usize = 0x02;
@@ -16,9 +16,9 @@ pub const SECOND: usize = 0x03;
 
 const VERSION: usize = 0x0B;
 
-const LIGHT: usize = 0x8B;
+pub const LIGHT: usize = 0x8B;
 
-const DIMMING: usize = 0x8D;
+pub const DIMMING: usize = 0x8D;
 
 pub const SAVED: usize = 0xF9;
 

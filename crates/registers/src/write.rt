@@ -1,14 +1,19 @@
 // All that may be written to the registers, and the one function that writes it.
 ghost use mathlib.Core.Path.{_≡_};
-ghost use Prim.Native.Nat.{_+_, _<_, _≤_};
+ghost use Prim.Native.Nat.{_+_, _-_, _<_, _≤_};
 ghost use lib.ListN.{length};
 ghost use Rattle.vault.specs.Job.{became, changed};
-ghost use Rattle.registers.specs.Write.{applied, byteOf, changeOf, oneMore, factoryAt, factoryBy, stored, valuesBy};
+ghost use Rattle.registers.specs.Write.{applied, byteOf, changeOf, oneMore, factoryBy, stored, valuesBy};
+ghost use Rattle.registers.specs.Code.{filled};
 use crate::places::Counter;
+use crate::places::DIMMING;
 use crate::places::FIRST;
+use crate::places::LIGHT;
+use crate::places::NETWORK;
 use crate::places::SAVED;
 use crate::places::SECOND;
 use crate::places::SIZE;
+use crate::places::UNIT;
 use crate::places::level_place;
 use units::Percent;
 use vault::Password;
@@ -23,7 +28,18 @@ pub enum Write {
     Values { first: u8 },
 }
 
-// The factory values of the action table.
+// The stretches of factory values: from CLEARED on 0, from FILLED on 255 but for a few places; from LEFT on all stays.
+const CLEARED: usize = 0x10;
+
+const FILLED: usize = 0x40;
+
+const LEFT: usize = 0xC0;
+
+const PASSWORD: Password = Password(0x12, 0x34);
+
+// The action table, and its factory values.
+const TABLE: usize = 0x7A;
+
 const ACTIONS: [u8; 8] = [100, 255, 100, 0, 0, 255, 0, 0];
 
 // The array's part of a write; the password's two places are left alone.
@@ -53,7 +69,7 @@ pub fn password(write: Write, values: &[u8], old: Password) -> Password
         Write::Count(_) => old,
         Write::Save(_) => old,
         Write::Preset { .. } => old,
-        Write::Factory => Password(factory_at(FIRST, old.0), factory_at(SECOND, old.1)),
+        Write::Factory => PASSWORD,
         Write::Values { first } => {
             let start = first as usize;
             Password(
@@ -89,36 +105,40 @@ fn store(place: usize, value: u8, all: &mut [u8; 256])
     }
 }
 
+// From the last line of `factoryAt` up: what it asks first is written last. Its 0x02 and 0x03 are the password's.
 fn store_factory(all: &mut [u8; 256])
     ensures { λ r. ⌜ now (all .exit) ≡ factoryBy 256 (now (all .entry)) ⌝ }
 {
-    let mut place = 0;
-    while place < SIZE {
-        let old = all[place];
-        store(place, factory_at(place, old), all);
+    sized(all);
+    fill(FILLED, LEFT, 255, all);
+    all[DIMMING] = 0x13;
+    all[LIGHT] = 0x09;
+    copy(TABLE, &ACTIONS, all);
+    fill(CLEARED, FILLED, 0, all);
+    all[UNIT] = 1;
+    all[NETWORK] = 255;
+}
+
+// A stretch of places with one value.
+fn fill(first: usize, end: usize, value: u8, all: &mut [u8; 256])
+    requires { ⌜ (3 < first) × ((first ≤ end) × (end ≤ 256)) ⌝ }
+    ensures { λ r. ⌜ now (all .exit) ≡ filled first (end - first) value (now (all .entry)) ⌝ }
+{
+    let mut place = first;
+    while place < end {
+        all[place] = value;
         place += 1;
     }
 }
 
-// The factory value of a place, or what stands there.
-fn factory_at(place: usize, old: u8) -> u8
-    ensures { λ r. ⌜ r ≡ factoryAt place old ⌝ }
+// For the proofs alone: lent registers are 256 bytes.
+fn sized(all: &[u8; 256])
+    ensures { λ r. ⌜ length (now (all .entry)) ≡ 256 ⌝ }
 {
-    match place {
-        0x00 => 255,
-        0x01 => 1,
-        0x02 => 0x12,
-        0x03 => 0x34,
-        0x10..=0x3F => 0,
-        0x7A..=0x81 => ACTIONS[place - 0x7A],
-        0x8B => 0x09,
-        0x8D => 0x13,
-        0x40..=0xBF => 255,
-        _ => old,
-    }
+    let some: &[u8] = all;
 }
 
-// Past the password and within the registers the values are copied as they are; elsewhere each place is looked at.
+// Past the password and within the registers the values are copied; elsewhere each place is looked at.
 fn store_values(first: usize, values: &[u8], all: &mut [u8; 256])
     requires { ⌜ first < 256 ⌝ }
     ensures { λ r. ⌜ now (all .exit) ≡ valuesBy (length (now (values .entry))) first (now (values .entry)) (now (all .entry)) ⌝ }

@@ -19,12 +19,6 @@ enum-told-4 c = search needs
 enum-told-5 : tie.Need-enum-told-5
 enum-told-5 c = search needs
 
-factory-at-requires : tie.Need-factory-at-requires
-factory-at-requires c κs = search needs
-
-factory-at-requires-2 : tie.Need-factory-at-requires-2
-factory-at-requires-2 c κs = search needs
-
 enum-known-write : tie.Need-enum-known-write
 enum-known-write c = search needs
 
@@ -55,7 +49,7 @@ returns-4 c = rw (c .enum-told4 .given .1)
 
 returns-5 : tie.Need-returns-5
 unfolding changeAt changeOf changed became factoryAt
-returns-5 c = simp (c .factory-at2 .ensures, c .before .factory-at .ensures, c .before .before .enum-told5 .given .1)
+returns-5 c = rw (c .enum-told5 .given .1)
 
 returns-6 : tie.Need-returns-6
 unfolding changeAt changeOf changed
@@ -70,8 +64,6 @@ password-spec =
     enum-told-3
     enum-told-4
     enum-told-5
-    factory-at-requires
-    factory-at-requires-2
     enum-known-write
     cast-start
     byte-requires

@@ -1,57 +1,53 @@
-use mathlib.Core.Path.{_≡_, _∙_, refl}
-use Prim.Native.Nat.{_≤_, _-_}
-use native.Mathlib.Numerals.{add-one}
-use native.Mathlib.Omega.{arith}
 use borrow.Author.Needs.{needs}
-use Rattle.registers.specs.Write.{factoryBy}
+use Rattle.registers.specs.Write.{stored}
+use Rattle.registers.proofs.Factory.{stretches}
 use Rattle.registers.proofs.write.store_factory.Statement.{statement}
 use Rattle.registers.proofs.write.store_factory.Tie as tie
 
-abbrev Inv-loop : tie.InvT-loop
-Inv-loop all₀ place₀ all place = (place ≤ 256) × (all ≡ factoryBy place all₀)
+sized-requires : tie.Need-sized-requires
+sized-requires c κs = search needs
 
-abbrev μ-loop : tie.MeasureT-loop
-μ-loop all₀ place₀ all place = 256 - place
+fill-requires : tie.Need-fill-requires
+fill-requires c κs = search needs
 
-loop-holds : tie.Need-loop-holds Inv-loop μ-loop
-unfolding factoryBy
-loop-holds c = (search needs, refl)
+element-write-all : tie.Need-element-write-all
+element-write-all c = search needs
 
-element-copy-out-old : tie.Need-element-copy-out-old Inv-loop μ-loop
-element-copy-out-old c = search needs
+element-write-all-2 : tie.Need-element-write-all-2
+element-write-all-2 c = search needs
 
-factory-at-requires : tie.Need-factory-at-requires Inv-loop μ-loop
-factory-at-requires c κs = search needs
+slice-aggregate-copy : tie.Need-slice-aggregate-copy
+slice-aggregate-copy c = search needs
 
-store-requires : tie.Need-store-requires Inv-loop μ-loop
-store-requires c κs = search needs
+copy-requires : tie.Need-copy-requires
+copy-requires c κs = search needs
 
-add-place : tie.Need-add-place Inv-loop μ-loop
-add-place c = search needs
+fill-requires-2 : tie.Need-fill-requires-2
+fill-requires-2 c κs = search needs
 
-loop-less : tie.Need-loop-less Inv-loop μ-loop
-loop-less c = search needs
+element-write-all-3 : tie.Need-element-write-all-3
+element-write-all-3 c = search needs
 
-loop-again : tie.Need-loop-again Inv-loop μ-loop
-unfolding factoryBy
-loop-again c = (search needs, rw add-one (cc))
+element-write-all-4 : tie.Need-element-write-all-4
+element-write-all-4 c = search needs
 
-returns : tie.Need-returns Inv-loop μ-loop
+returns : tie.Need-returns
+unfolding stored
 returns c =
-    let done : c .before .loop .place ≡ 256 = omega arith in
-    c .before .loop .inv .1 ∙ rw done
+    let filling = c .before .before .before .before .before in
+    rw (c .fill2 .ensures, c .before .before .copy .ensures, filling .fill .ensures) (stretches _ (filling .before .before .sized .ensures))
 
 pub store-factory-spec : {M : Type 1} → statement M
 store-factory-spec =
     tie.close
     (tie.spec
-    Inv-loop
-    μ-loop
-    loop-holds
-    element-copy-out-old
-    factory-at-requires
-    store-requires
-    add-place
-    loop-less
-    loop-again
+    sized-requires
+    fill-requires
+    element-write-all
+    element-write-all-2
+    slice-aggregate-copy
+    copy-requires
+    fill-requires-2
+    element-write-all-3
+    element-write-all-4
     returns)
