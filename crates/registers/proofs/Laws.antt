@@ -1,14 +1,15 @@
 -- What callers use of the registers: the password apart and back, an image taken, a range read, a component found.
 use mathlib.Core.Bool.{Bool, true, false, true≢false}
-use mathlib.Core.List.{List, [], _∷_}
+use mathlib.Core.List.{List, [], _∷_, _++_, append-assoc}
 use mathlib.Core.Logic.{_≢_}
 use mathlib.Core.Path.{_≡_, refl, sym, ap, ap₂, _∙_}
 use Prim.Native.Nat.{ℕ, zero, suc, _+_, _<_}
 use native.Mathlib.Nat.{add-zero}
+use native.Mathlib.Numerals.{add-one}
 use native.Mathlib.Omega.{arith}
 use lib.Dec.{eqb, ltb}
-use lib.ListN.{length, getD, set, length-set, List·getD-eq-default}
-use lib.Seq.{ext-getD, getD-set-other}
+use lib.ListN.{length, getD, set, take, length-set, List·getD-eq-default}
+use lib.Seq.{ext-getD, getD-set-other, take-suc-set}
 use borrow.Author.Tests.{eqb-true, eqb-false, eq-eqb, ne-eqb, lt-ltb, le-ltb}
 use Rattle.words.specs.Words.{Bytes}
 use Rattle.words.proofs.Laws.{both, cases, neither, two-ways}
@@ -75,6 +76,10 @@ pub not-secret : (k : ℕ) → secret k ≡ false → (k ≢ firstPlace) × (k �
 not-secret k h =
     let parts = neither (eqb k firstPlace) (eqb k secondPlace) h in
     (eqb-false k firstPlace (parts .0), eqb-false k secondPlace (parts .1))
+
+-- A place past 0x03 is not the password's.
+pub plain : (k : ℕ) → secondPlace < k → secret k ≡ false
+plain k h = simp (ne-eqb k firstPlace (λ e. omega arith), ne-eqb k secondPlace (λ e. omega arith))
 
 -- No place but the password's two depends on the password: every other reads the same in an image and in the registers taken from it,
 pub apart-other : (image : List ℕ) (k : ℕ) → secret k ≡ false → getD (apart image) k 0 ≡ getD image k 0
@@ -205,6 +210,14 @@ range-at all seen first (suc n) zero h = rw (add-zero first)
 range-at all seen first (suc n) (suc i) h =
     let on : first + 1 + i ≡ first + suc i = omega arith in
     range-at all seen (first + 1) n i (omega arith) ∙ rw on
+
+-- A range that is filled from the front: one byte more.
+pub range-more : (all : List ℕ) (seen : Seen) (first : ℕ) (out : List ℕ) (i v n : ℕ) → i < length out → v ≡ readAt all seen (first + i)
+    → take (i + 1) (set out i v) ++ rangeOf all seen (first + (i + 1)) n ≡ take i out ++ rangeOf all seen (first + i) (suc n)
+unfolding rangeOf
+range-more all seen first out i v n h e =
+    let next : first + (i + 1) ≡ first + i + 1 = omega arith in
+    rw (next, add-one i, take-suc-set out i v h, append-assoc (take i out) (v ∷ []), e)
 
 -- So a range read without the password has 0 at 0x02 and 0x03, wherever it starts.
 pub range-hidden : (all : List ℕ) (first n i : ℕ) → i < n → secret (first + i) ≡ true → getD (rangeOf all Hidden first n) i 0 ≡ 0

@@ -23,7 +23,7 @@ use Rattle.registers.specs.declared.places.Counter.{Counter}
 use Rattle.registers.specs.declared.places.Counter.the-variants.{Setups, Restarts}
 use Rattle.registers.specs.declared.write.Write.{Write}
 use Rattle.registers.specs.declared.write.Write.the-variants.{Nothing, Count, Save, Preset, Factory, Values}
-use Rattle.registers.proofs.Laws.{by-secret, image-other, password-back}
+use Rattle.registers.proofs.Laws.{by-secret, image-other, password-back, plain}
 use Rattle.registers.specs.Code.{touches}
 
 -- Both counters stand among the 256 registers.
@@ -37,10 +37,6 @@ counter-plain : (counter : Counter) → secret (counterPlace counter) ≡ false
 unfolding counterPlace
 counter-plain Setups = refl
 counter-plain Restarts = refl
-
--- A place past 0x03 is not the password's.
-plain : (k : ℕ) → secondPlace < k → secret k ≡ false
-plain k h = simp (ne-eqb k firstPlace (λ e. omega arith), ne-eqb k secondPlace (λ e. omega arith))
 
 -- Storing a byte past 0x03 and within the registers is writing it.
 pub stored-plain : (place value : ℕ) (all : List ℕ) → secondPlace < place → place < size → stored place value all ≡ set all place value

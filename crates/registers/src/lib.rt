@@ -1,7 +1,9 @@
 // The 256 registers, with the password held apart from them: the bytes at 0x02 and 0x03 are dead.
 ghost use mathlib.Core.Path.{_≡_};
+ghost use Prim.Native.Nat.{_+_, _<_, _≤_};
 ghost use lib.ListN.{length};
 ghost use Rattle.registers.specs.Registers.{imageOf, rangeOf, heldAt, masked, firstSeen, secondSeen, found, numberTaken, valid};
+ghost use Rattle.registers.specs.declared.Seen.{Seen};
 ghost use Rattle.registers.specs.Code.{Took};
 use vault::Password;
 
@@ -86,6 +88,29 @@ pub fn range(all: &[u8; 256], seen: Seen, first: u8, out: &mut [u8])
     ensures { λ r. ⌜ now (out .exit) ≡ rangeOf (now (all .entry)) seen first (length (now (out .entry))) ⌝ }
 {
     let start = first as usize;
+    if SECOND < start && start + out.len() <= SIZE {
+        return read(all, start, out);
+    }
+    read_each(all, seen, start, out)
+}
+
+// Past the password and within the registers the bytes are copied, whatever the reader was handed.
+fn read(all: &[u8; 256], start: usize, out: &mut [u8])
+    requires { ⌜ (3 < start) × (start + length (now out) ≤ 256) ⌝ }
+    ensures { λ r. ⌜ ((seen : Seen) → now (out .exit) ≡ rangeOf (now (all .entry)) seen start (length (now (out .entry)))) ⌝ }
+{
+    let mut i = 0;
+    while i < out.len() {
+        out[i] = all[start + i];
+        i += 1;
+    }
+}
+
+// Elsewhere each place is looked at.
+fn read_each(all: &[u8; 256], seen: Seen, start: usize, out: &mut [u8])
+    requires { ⌜ start < 256 ⌝ }
+    ensures { λ r. ⌜ now (out .exit) ≡ rangeOf (now (all .entry)) seen start (length (now (out .entry))) ⌝ }
+{
     let mut i = 0;
     while i < out.len() {
         let place = start + i;
