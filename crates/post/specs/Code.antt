@@ -2,7 +2,7 @@
 use mathlib.Core.Path.{_≡_}
 use mathlib.Core.Bool.{true}
 use mathlib.Core.List.{List, [], _∷_, _++_}
-use Prim.Native.Nat.{ℕ, _+_, _≤_}
+use Prim.Native.Nat.{ℕ, _*_}
 use lib.Dec.{ltb, eqb}
 use lib.ListN.{length, take, drop}
 use Rattle.words.specs.Words.{if_then_else_}
@@ -75,12 +75,15 @@ LaysOneWay =
     (sent : List (List ℕ)) (before after after′ : List ℕ) (n n′ : ℕ)
     → Laid sent before n after → Laid sent before n′ after′ → (n ≡ n′) × (after ≡ after′)
 
--- Two notes laid one after the other, the second into the first place that is free, fill the places in order.
-abbrev pub NotesInOrder : Type 0
-NotesInOrder =
-    (first second : Note) (before : List ℕ) → place + place ≤ length before
-    → placedAt (if eqb (length (front (sentOf first))) 0 then 0 else place) (front (sentOf second)) (placedAt 0 (front (sentOf first)) before)
-    ≡ placed (sentOf first ++ sentOf second) before
+-- How many packets a length stands for: 0 is none.
+unfoldable pub counted : ℕ → ℕ
+counted size = if eqb size 0 then 0 else 1
+
+-- One packet more, laid into the place behind those before it, fills the places in order.
+abbrev pub PacketsInOrder : Type 0
+PacketsInOrder =
+    (packets : List (List ℕ)) (p before : List ℕ)
+    → placedAt (place * length packets) p (placed packets before) ≡ placed (packets ++ (p ∷ [])) before
 
 -- 01, Numbers to test by, 2 (a), the reply: network 1, unit 5, 40 percent, to sender 9.
 abbrev pub CaseA : Type 0
