@@ -1,3 +1,4 @@
 pub mod Laws
+pub mod Laying
 pub mod Steps
 pub mod Sending

@@ -2,9 +2,9 @@
 use mathlib.Core.Path.{_≡_}
 use mathlib.Core.Bool.{true}
 use mathlib.Core.List.{List, [], _∷_, _++_}
-use Prim.Native.Nat.{ℕ, _*_}
+use Prim.Native.Nat.{ℕ, _+_, _*_}
 use lib.Dec.{ltb, eqb}
-use lib.ListN.{length, take, drop}
+use lib.ListN.{length, take, drop, set, replicate}
 use Rattle.words.specs.Words.{if_then_else_}
 use Rattle.units.specs.declared.Percent.{Percent}
 use Rattle.units.specs.Units.{percent}
@@ -17,9 +17,11 @@ use Rattle.registers.specs.declared.Seen.{Seen}
 use Rattle.post.specs.declared.Message.{Message}
 use Rattle.post.specs.declared.Message.the-variants.{Empty}
 use Rattle.post.specs.declared.Note.{Note}
-use Rattle.post.specs.Post.{header, enveloped, bytesOf, gestureMessage, placedOne, announced, replied, placed}
-use Rattle.model.specs.Model.{place}
+use Rattle.post.specs.Post.{header, enveloped, bytesOf, gestureMessage, placedOne, announced, replied, placed, lengthsIn, tally}
+use Rattle.model.specs.Model.{paddles, place}
 use Rattle.post.specs.declared.Reply.the-variants.{Status}
+use Rattle.post.specs.declared.outbox.Sent.{Sent}
+use Rattle.post.specs.declared.outbox.Outbox.{Outbox}
 
 -- A link packet still to be laid.
 abbrev pub note : ℕ → ℕ → ℕ → Message → Note
@@ -84,6 +86,35 @@ abbrev pub PacketsInOrder : Type 0
 PacketsInOrder =
     (packets : List (List ℕ)) (p before : List ℕ)
     → placedAt (place * length packets) p (placed packets before) ≡ placed (packets ++ (p ∷ [])) before
+
+-- What is counted of one packet of so many bytes.
+unfoldable pub lone : ℕ → Sent
+lone size = record { lengths = set (lengthsIn paddles []) 0 size; count = counted size }
+
+-- The packets of notes in their order.
+unfoldable pub noted : List Note → List (List ℕ)
+noted [] = []
+noted (n ∷ rest) = sentOf n ++ noted rest
+
+-- The packets of a box: those of its first notes, as many as it counts.
+unfoldable pub packetsIn : Outbox → List (List ℕ)
+packetsIn box = noted (take (box .count) (box .notes))
+
+-- Nothing to send.
+abbrev pub noNotes : Outbox
+noNotes = record { count = 0; notes = replicate paddles noNote }
+
+-- A box with one note more, behind the others; an empty note is none, and a full box stays as it is.
+unfoldable pub boxed : Outbox → Note → Outbox
+boxed box n =
+    if eqb (length (front (sentOf n))) 0 then box
+    else if ltb (box .count) paddles then record { count = box .count + 1; notes = set (box .notes) (box .count) n }
+    else box
+
+-- What laying packets into a buffer promises: the count with the lengths, and every byte.
+pub record Sends (packets : List (List ℕ)) (before : List ℕ) (sent : Sent) (after : List ℕ) : Type 0 where
+  pub counted : sent ≡ tally packets
+  pub bytes : after ≡ placed packets before
 
 -- 01, Numbers to test by, 2 (a), the reply: network 1, unit 5, 40 percent, to sender 9.
 abbrev pub CaseA : Type 0

@@ -1,14 +1,14 @@
 -- What a switch sends: a paddle's link packet and a reply (01, Paddles, 12 to 15; 01, Commands, 3 and 8), and where it is laid.
 use mathlib.Core.Bool.{Bool, true, false, not, _||_}
 use mathlib.Core.List.{List, [], _∷_, _++_}
-use Prim.Native.Nat.{ℕ, _%_, min}
+use Prim.Native.Nat.{ℕ, zero, suc, _%_, min}
 use lib.Dec.{ltb, eqb}
 use lib.ListN.{length, take, drop}
 use Rattle.words.specs.Words.{if_then_else_}
 use Rattle.units.specs.declared.Percent.{Percent}
 use Rattle.vault.specs.declared.Mode.{Mode}
 use Rattle.vault.specs.declared.Mode.the-variants.{Normal, Setup, Factory}
-use Rattle.model.specs.Model.{place}
+use Rattle.model.specs.Model.{paddles, place}
 use Rattle.packet.specs.Layout.{packed}
 use Rattle.packet.specs.declared.Header.{Header}
 use Rattle.paddle.specs.declared.Gesture.{Gesture}
@@ -22,6 +22,7 @@ use Rattle.post.specs.declared.Message.{Message}
 use Rattle.post.specs.declared.Message.the-variants.{Empty, One, Two, Three}
 use Rattle.post.specs.declared.Reply.{Reply}
 use Rattle.post.specs.declared.Reply.the-variants.{Silence, Status, Registers}
+use Rattle.post.specs.declared.outbox.Sent.{Sent}
 
 -- 01, Packet layout (H), 5: a sent header asks for nothing: request, count and sequence are 0, and so is repeat (decision 45).
 abbrev pub header : Bool → ℕ → ℕ → ℕ → Header
@@ -131,3 +132,13 @@ placedOne p before = if ltb (length before) (length p) then before else p ++ dro
 unfoldable pub placed : List (List ℕ) → List ℕ → List ℕ
 placed [] before = before
 placed (p ∷ rest) before = placedOne p (take place before) ++ placed rest (drop place before)
+
+-- 01, Events and time, 7: the length of each packet, for so many places; 0 where there is none.
+unfoldable pub lengthsIn : ℕ → List (List ℕ) → List ℕ
+lengthsIn zero packets = []
+lengthsIn (suc n) [] = 0 ∷ lengthsIn n []
+lengthsIn (suc n) (p ∷ rest) = length p ∷ lengthsIn n rest
+
+-- 01, Events and time, 7: how many packets were sent, and the length of each in its order.
+unfoldable pub tally : List (List ℕ) → Sent
+tally packets = record { lengths = lengthsIn paddles packets; count = length packets }

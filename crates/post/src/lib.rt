@@ -16,6 +16,8 @@ use registers::places::Transmit;
 use units::Percent;
 use vault::Mode;
 
+pub mod outbox;
+
 // Command numbers above those of the command table.
 const REPORT: u8 = 14;
 
