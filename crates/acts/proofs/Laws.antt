@@ -1,4 +1,4 @@
--- What callers use of orders and gestures: what they write, which mode they leave, and that the level stays within its range.
+-- What callers use of works and gestures: what they write, which mode they leave, and that the level stays within its range.
 use mathlib.Core.Path.{_≡_, refl, _∙_}
 use mathlib.Core.List.{List}
 use Prim.Native.Nat.{ℕ, _≤_}
@@ -13,20 +13,23 @@ use Rattle.vault.specs.declared.Mode.{Mode}
 use Rattle.vault.specs.declared.Mode.the-variants.{Normal, Setup, Factory}
 use Rattle.dimmer.specs.Dimmer.{Within, optionsOf}
 use Rattle.dimmer.proofs.Laws.{fresh-within, set-within, stop-within, blink-within, tick-within}
-use Rattle.judge.specs.declared.Order.{Order}
-use Rattle.judge.specs.declared.Order.the-variants as order
+use Rattle.dimmer.specs.declared.Dimmer.{Dimmer}
+use Rattle.judge.specs.declared.Work.{Work}
+use Rattle.judge.specs.declared.Work.the-variants as work
+use Rattle.judge.specs.declared.Drive.{Drive}
+use Rattle.judge.specs.declared.Drive.the-variants as drive
 use Rattle.paddle.specs.declared.Gesture.{Gesture}
 use Rattle.paddle.specs.declared.Gesture.the-variants.{Nothing, Taps, Hold, Release}
 use Rattle.registers.specs.Places.{dimmingIn, singleIn, doubleIn, savedIn, componentIn}
 use Rattle.registers.specs.declared.write.Write.the-variants.{Nothing as Unwritten}
 use Rattle.acts.specs.Core
-use Rattle.acts.specs.Core.{unwritten, startLevel, started, aged, setting, stopping, entering, opened}
-use Rattle.acts.specs.Orders.{blinking, storing, performed}
+use Rattle.acts.specs.Core.{unwritten, startLevel, started, aged, setBy, setting, stopping, entering, opened}
+use Rattle.acts.specs.Orders.{driven, performed}
 use Rattle.acts.specs.Gestures
 use Rattle.acts.specs.Gestures.{far, byAction, holding, tapsInNormal, tapsInSetup, tapsInFactory, actedInNormal, actedInSetup, actedInFactory, actedIn, acted}
 use Rattle.acts.specs.declared.Core.{Core}
 use Rattle.acts.specs.declared.Effect.{Effect}
-use Rattle.acts.specs.Code.{orderWrites, orderLeads}
+use Rattle.acts.specs.Code.{workWrites, workLeads}
 
 -- No gesture, no act.
 nothing-in : (mode : Mode) (all : List ℕ) (paddle : ℕ) (c : Core) → actedIn mode all paddle Nothing c ≡ unwritten c
@@ -131,36 +134,22 @@ pub gesture-leads : (all : List ℕ) (paddle : ℕ) (g : Gesture) (c : Core) →
 unfolding acted
 gesture-leads all paddle g c = leads-in all paddle c (c .mode) g refl
 
--- What an order writes, and which mode it leaves.
-pub order-writes : (all : List ℕ) (o : Order) (c : Core) → performed all o c .write ≡ orderWrites o (c .dimmer .level)
-unfolding performed storing orderWrites unwritten
-order-writes all (order.Refused n) c = refl
-order-writes all (order.Open guess) c = refl
-order-writes all order.Close c = refl
-order-writes all (order.Get first count) c = refl
-order-writes all (order.Set first) c = refl
-order-writes all (order.Activate i) c = refl
-order-writes all (order.Deactivate i) c = refl
-order-writes all (order.Goto target rate) c = refl
-order-writes all order.Stop c = refl
-order-writes all (order.Blink value) c = refl
-order-writes all order.Report c = refl
-order-writes all (order.Store i) c = refl
+-- What a work writes, and which mode it leaves.
+pub work-writes : (all : List ℕ) (w : Work) (c : Core) → performed all w c .write ≡ workWrites w (c .dimmer .level)
+unfolding performed workWrites unwritten
+work-writes all work.Report c = refl
+work-writes all work.Close c = refl
+work-writes all (work.Set first) c = refl
+work-writes all (work.Store i) c = refl
+work-writes all (work.Drive d) c = refl
 
-pub order-leads : (all : List ℕ) (o : Order) (c : Core) → performed all o c .core .mode ≡ orderLeads o (c .mode)
-unfolding performed storing orderLeads unwritten entering setting stopping blinking
-order-leads all (order.Refused n) c = refl
-order-leads all (order.Open guess) c = refl
-order-leads all order.Close c = refl
-order-leads all (order.Get first count) c = refl
-order-leads all (order.Set first) c = refl
-order-leads all (order.Activate i) c = refl
-order-leads all (order.Deactivate i) c = refl
-order-leads all (order.Goto target rate) c = refl
-order-leads all order.Stop c = refl
-order-leads all (order.Blink value) c = refl
-order-leads all order.Report c = refl
-order-leads all (order.Store i) c = refl
+pub work-leads : (all : List ℕ) (w : Work) (c : Core) → performed all w c .core .mode ≡ workLeads w (c .mode)
+unfolding performed workLeads unwritten entering
+work-leads all work.Report c = refl
+work-leads all work.Close c = refl
+work-leads all (work.Set first) c = refl
+work-leads all (work.Store i) c = refl
+work-leads all (work.Drive d) c = refl
 
 -- Level and Last On Level stay within 0 to 200, whatever is done.
 abbrev pub Ranged : Core → Type 0
@@ -174,24 +163,29 @@ pub age-ranged : (c : Core) → Ranged c → Ranged (aged c)
 unfolding aged
 age-ranged c = tick-within (c .dimmer)
 
+set-ranged : (all : List ℕ) (level rate : ℕ) (d : Dimmer) → Within d → Within (setBy all level rate d)
+unfolding setBy
+set-ranged all level rate d = set-within d level rate (optionsOf (dimmingIn all))
+
 setting-ranged : (all : List ℕ) (level rate : ℕ) (c : Core) → Ranged c → Ranged (setting all level rate c)
 unfolding setting
-setting-ranged all level rate c = set-within (c .dimmer) level rate (optionsOf (dimmingIn all))
+setting-ranged all level rate c = set-ranged all level rate (c .dimmer)
 
-pub order-ranged : (all : List ℕ) (o : Order) (c : Core) → Ranged c → Ranged (performed all o c .core)
-unfolding performed storing unwritten entering stopping blinking
-order-ranged all (order.Refused n) c w = w
-order-ranged all (order.Open guess) c w = w
-order-ranged all order.Close c w = w
-order-ranged all (order.Get first count) c w = w
-order-ranged all (order.Set first) c w = w
-order-ranged all (order.Activate i) c w = setting-ranged all (componentIn all i .level) (componentIn all i .rate) c w
-order-ranged all (order.Deactivate i) c w = setting-ranged all 0 (componentIn all i .rate) c w
-order-ranged all (order.Goto target rate) c w = setting-ranged all target rate c w
-order-ranged all order.Stop c w = stop-within (c .dimmer) w
-order-ranged all (order.Blink value) c w = blink-within (c .dimmer) value w
-order-ranged all order.Report c w = w
-order-ranged all (order.Store i) c w = w
+drive-ranged : (all : List ℕ) (o : Drive) (d : Dimmer) → Within d → Within (driven all o d)
+unfolding driven
+drive-ranged all (drive.Activate i) d = set-ranged all (componentIn all i .level) (componentIn all i .rate) d
+drive-ranged all (drive.Deactivate i) d = set-ranged all 0 (componentIn all i .rate) d
+drive-ranged all (drive.Goto level rate) d = set-ranged all level rate d
+drive-ranged all drive.Stop d = stop-within d
+drive-ranged all (drive.Blink value) d = blink-within d value
+
+pub work-ranged : (all : List ℕ) (w : Work) (c : Core) → Ranged c → Ranged (performed all w c .core)
+unfolding performed unwritten entering
+work-ranged all work.Report c k = k
+work-ranged all work.Close c k = k
+work-ranged all (work.Set first) c k = k
+work-ranged all (work.Store i) c k = k
+work-ranged all (work.Drive d) c k = drive-ranged all d (c .dimmer) k
 
 abbrev Leaves : Effect → Type 0
 Leaves e = Ranged (e .core)

@@ -1,39 +1,25 @@
 -- What the code and the proofs are cut by: no promise under the roof needs a definition of this file.
-use Rattle.units.specs.Units.{percentOf}
 use Rattle.units.specs.declared.Step.{Step}
 use Rattle.vault.specs.declared.Mode.{Mode}
 use Rattle.vault.specs.declared.Mode.the-variants.{Normal}
-use Rattle.judge.specs.declared.Order.{Order}
-use Rattle.judge.specs.declared.Order.the-variants as order
+use Rattle.judge.specs.declared.Work.{Work}
+use Rattle.judge.specs.declared.Work.the-variants as work
 use Rattle.registers.specs.declared.write.Write.{Write}
-use Rattle.registers.specs.declared.write.Write.the-variants.{Nothing, Preset, Values}
+use Rattle.registers.specs.declared.write.Write.the-variants.{Nothing, Values}
+use Rattle.acts.specs.Orders.{stored}
 
--- What an order writes; of a state it needs the level alone.
-unfoldable pub orderWrites : Order → Step → Write
-orderWrites (order.Refused n) level = Nothing
-orderWrites (order.Open guess) level = Nothing
-orderWrites order.Close level = Nothing
-orderWrites (order.Get first count) level = Nothing
-orderWrites (order.Set first) level = Values first
-orderWrites (order.Activate i) level = Nothing
-orderWrites (order.Deactivate i) level = Nothing
-orderWrites (order.Goto target rate) level = Nothing
-orderWrites order.Stop level = Nothing
-orderWrites (order.Blink value) level = Nothing
-orderWrites order.Report level = Nothing
-orderWrites (order.Store i) level = Preset i (percentOf level)
+-- What a work writes; of a state it needs the level alone.
+unfoldable pub workWrites : Work → Step → Write
+workWrites work.Report level = Nothing
+workWrites work.Close level = Nothing
+workWrites (work.Set first) level = Values first
+workWrites (work.Store i) level = stored level i
+workWrites (work.Drive d) level = Nothing
 
--- Which mode an order leaves.
-unfoldable pub orderLeads : Order → Mode → Mode
-orderLeads (order.Refused n) mode = mode
-orderLeads (order.Open guess) mode = mode
-orderLeads order.Close mode = Normal
-orderLeads (order.Get first count) mode = mode
-orderLeads (order.Set first) mode = mode
-orderLeads (order.Activate i) mode = mode
-orderLeads (order.Deactivate i) mode = mode
-orderLeads (order.Goto target rate) mode = mode
-orderLeads order.Stop mode = mode
-orderLeads (order.Blink value) mode = mode
-orderLeads order.Report mode = mode
-orderLeads (order.Store i) mode = mode
+-- Which mode a work leaves.
+unfoldable pub workLeads : Work → Mode → Mode
+workLeads work.Report mode = mode
+workLeads work.Close mode = Normal
+workLeads (work.Set first) mode = mode
+workLeads (work.Store i) mode = mode
+workLeads (work.Drive d) mode = mode

@@ -61,8 +61,12 @@ abbrev pub withDimmer : Dimmer → Core → Core
 withDimmer d c = core (c .mode) d (c .lamp) (c .save)
 
 -- 01, Levels and fades, 6: a level is set by what 0x8D says at that moment.
+unfoldable pub setBy : List ℕ → ℕ → ℕ → Dimmer → Dimmer
+setBy all level rate d = setTo d level rate (optionsOf (dimmingIn all))
+
+-- The same in a core.
 unfoldable pub setting : List ℕ → ℕ → ℕ → Core → Core
-setting all level rate c = withDimmer (setTo (c .dimmer) level rate (optionsOf (dimmingIn all))) c
+setting all level rate c = withDimmer (setBy all level rate (c .dimmer)) c
 
 -- 01, Levels and fades, 9: a stop.
 unfoldable pub stopping : Core → Core

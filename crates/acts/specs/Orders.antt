@@ -1,40 +1,43 @@
--- What a packet's order does to core and registers (01, Commands). Start Setup needs the password, which is not here: it does nothing.
+-- What a packet's work does to core and registers (01, Commands). A guess and a reading are settled elsewhere, with the password.
 use mathlib.Core.List.{List}
 use Prim.Native.Nat.{ℕ}
 use Rattle.units.specs.Units.{percentOf}
+use Rattle.units.specs.declared.Step.{Step}
 use Rattle.vault.specs.declared.Mode.the-variants.{Normal}
-use Rattle.dimmer.specs.Dimmer.{setBlinking}
-use Rattle.judge.specs.declared.Order.{Order}
-use Rattle.judge.specs.declared.Order.the-variants as order
+use Rattle.dimmer.specs.Dimmer.{setBlinking, stopped}
+use Rattle.dimmer.specs.declared.Dimmer.{Dimmer}
+use Rattle.judge.specs.declared.Work.{Work}
+use Rattle.judge.specs.declared.Work.the-variants as work
+use Rattle.judge.specs.declared.Drive.{Drive}
+use Rattle.judge.specs.declared.Drive.the-variants as drive
 use Rattle.registers.specs.Places.{componentIn}
+use Rattle.registers.specs.declared.write.Write.{Write}
 use Rattle.registers.specs.declared.write.Write.the-variants.{Preset, Values}
-use Rattle.acts.specs.Core.{effect, unwritten, withDimmer, setting, stopping, entering}
+use Rattle.acts.specs.Core.{effect, unwritten, withDimmer, setBy, entering}
 use Rattle.acts.specs.declared.Core.{Core}
 use Rattle.acts.specs.declared.Effect.{Effect}
 
--- 01, Commands, 2 (0x25): Blink.
-unfoldable pub blinking : ℕ → Core → Core
-blinking value c = withDimmer (setBlinking (c .dimmer) value) c
+-- What a drive makes of the dimmer.
+unfoldable pub driven : List ℕ → Drive → Dimmer → Dimmer
+-- 01, Commands, 1 (0x20, 0x21): Activate sets what the component says, Deactivate sets off at the component's rate.
+driven all (drive.Activate i) d = setBy all (componentIn all i .level) (componentIn all i .rate) d
+driven all (drive.Deactivate i) d = setBy all 0 (componentIn all i .rate) d
+-- 01, Commands, 2: Goto and Fade Start are one drive, then Fade Stop and Blink.
+driven all (drive.Goto level rate) d = setBy all level rate d
+driven all drive.Stop d = stopped d
+driven all (drive.Blink value) d = setBlinking d value
 
 -- 01, Commands, 1 (0x31): Store Preset writes the running level, as a percent, as the component's.
-unfoldable pub storing : ℕ → Core → Effect
-storing i c = effect c (Preset i (percentOf (c .dimmer .level)))
+unfoldable pub stored : Step → ℕ → Write
+stored level i = Preset i (percentOf level)
 
--- What each order does. Get and Report are only replied to.
-unfoldable pub performed : List ℕ → Order → Core → Effect
-performed all (order.Refused n) c = unwritten c
-performed all (order.Open guess) c = unwritten c
+-- What each work does.
+unfoldable pub performed : List ℕ → Work → Core → Effect
+-- 01, Commands, 3 (0x30): Report is only replied to.
+performed all work.Report c = unwritten c
 -- 01, Commands, 4: Stop Setup.
-performed all order.Close c = unwritten (entering Normal c)
-performed all (order.Get first count) c = unwritten c
+performed all work.Close c = unwritten (entering Normal c)
 -- 01, Commands, 3 (0x11): Set Registers writes the values of the message.
-performed all (order.Set first) c = effect c (Values first)
--- 01, Commands, 1 (0x20, 0x21): Activate sets what the component says, Deactivate sets off at the component's rate.
-performed all (order.Activate i) c = unwritten (setting all (componentIn all i .level) (componentIn all i .rate) c)
-performed all (order.Deactivate i) c = unwritten (setting all 0 (componentIn all i .rate) c)
--- 01, Commands, 2: Goto and Fade Start are one order, then Fade Stop and Blink.
-performed all (order.Goto level rate) c = unwritten (setting all level rate c)
-performed all order.Stop c = unwritten (stopping c)
-performed all (order.Blink value) c = unwritten (blinking value c)
-performed all order.Report c = unwritten c
-performed all (order.Store i) c = storing i c
+performed all (work.Set first) c = effect c (Values first)
+performed all (work.Store i) c = effect c (stored (c .dimmer .level) i)
+performed all (work.Drive d) c = unwritten (withDimmer (driven all d (c .dimmer)) c)

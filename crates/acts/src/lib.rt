@@ -1,7 +1,7 @@
 // What a tick, a packet's order and a paddle's gesture do to the core of a switch. The registers are only read here; what is
 // to be written to them comes back.
 ghost use mathlib.Core.Path.{_≡_};
-ghost use Rattle.acts.specs.Core.{unwritten, startLevel, started, aged, toSave, saved, setting, stopping, entering, signalled, opened};
+ghost use Rattle.acts.specs.Core.{unwritten, startLevel, started, aged, toSave, saved, setBy, setting, stopping, entering, signalled, opened};
 use dimmer::Dimmer;
 use dimmer::Options;
 use lamp::Colour;
@@ -74,7 +74,8 @@ impl Core {
         Write::Nothing
     }
 
-    fn unwritten(self) -> Effect
+    // An act that writes nothing.
+    pub fn unwritten(self) -> Effect
         ensures { λ r. ⌜ r ≡ unwritten self ⌝ }
     {
         Effect {
@@ -83,12 +84,10 @@ impl Core {
         }
     }
 
-    // Sets a level by what 0x8D says now.
     fn setting(mut self, all: &[u8; 256], level: u8, rate: u8) -> Core
         ensures { λ r. ⌜ r ≡ setting (now (all .entry)) level rate self ⌝ }
     {
-        let options = Options::of(registers::places::dimming(all));
-        self.dimmer = self.dimmer.set(level, rate, options);
+        self.dimmer = set_by(self.dimmer, all, level, rate);
         self
     }
 
@@ -131,6 +130,14 @@ impl Core {
             write: Write::Count(Counter::Setups),
         }
     }
+}
+
+// Sets a level by what 0x8D says now.
+pub fn set_by(dimmer: Dimmer, all: &[u8; 256], level: u8, rate: u8) -> Dimmer
+    ensures { λ r. ⌜ r ≡ setBy (now (all .entry)) level rate dimmer ⌝ }
+{
+    let options = Options::of(registers::places::dimming(all));
+    dimmer.set(level, rate, options)
 }
 
 fn start_level(saved: u8) -> Step

@@ -1,57 +1,69 @@
-// What a packet's order does. A Start Setup is settled elsewhere, with the password: here it does nothing.
+// What a packet's work does. A guess and a reading are settled elsewhere, with the password.
 ghost use mathlib.Core.Path.{_≡_};
-ghost use Rattle.acts.specs.Orders.{blinking, storing, performed};
+ghost use Rattle.acts.specs.Core.{withDimmer};
+ghost use Rattle.acts.specs.Orders.{driven, stored, performed};
 use crate::Core;
 use crate::Effect;
-use judge::Order;
+use crate::set_by;
+use dimmer::Dimmer;
+use judge::Drive;
+use judge::Work;
 use registers::write::Write;
+use units::Step;
 use vault::Mode;
 
-pub fn perform(core: Core, all: &[u8; 256], order: Order) -> Effect
-    ensures { λ r. ⌜ r ≡ performed (now (all .entry)) order core ⌝ }
+pub fn perform(core: Core, all: &[u8; 256], work: Work) -> Effect
+    ensures { λ r. ⌜ r ≡ performed (now (all .entry)) work core ⌝ }
 {
-    match order {
-        Order::Refused(_) => core.unwritten(),
-        Order::Open(_) => core.unwritten(),
-        Order::Close => core.entering(Mode::Normal).unwritten(),
-        Order::Get { .. } => core.unwritten(),
-        Order::Set { first } => Effect {
+    match work {
+        Work::Report => core.unwritten(),
+        Work::Close => core.entering(Mode::Normal).unwritten(),
+        Work::Set { first } => Effect {
             core,
             write: Write::Values { first },
         },
-        Order::Activate(i) => {
-            let component = registers::places::component_at(all, i);
-            core.setting(all, component.level, component.rate)
-                .unwritten()
+        Work::Store(component) => {
+            let dimmer = core.dimmer;
+            Effect {
+                core,
+                write: stored(dimmer.level, component),
+            }
         }
-        Order::Deactivate(i) => {
-            let component = registers::places::component_at(all, i);
-            core.setting(all, 0, component.rate).unwritten()
-        }
-        Order::Goto { level, rate } => core.setting(all, level, rate).unwritten(),
-        Order::Stop => core.stopping().unwritten(),
-        Order::Blink(value) => blinking(core, value).unwritten(),
-        Order::Report => core.unwritten(),
-        Order::Store(component) => storing(core, component),
+        Work::Drive(drive) => driving(core, all, drive).unwritten(),
     }
 }
 
-fn blinking(core: Core, value: u8) -> Core
-    ensures { λ r. ⌜ r ≡ blinking value core ⌝ }
+fn driving(core: Core, all: &[u8; 256], asked: Drive) -> Core
+    ensures { λ r. ⌜ r ≡ withDimmer (driven (now (all .entry)) asked (core .dimmer)) core ⌝ }
 {
     let mut next = core;
-    next.dimmer = core.dimmer.blink(value);
+    next.dimmer = drive(core.dimmer, all, asked);
     next
 }
 
-// The level, as a percent, becomes the component's.
-fn storing(core: Core, component: u8) -> Effect
-    ensures { λ r. ⌜ r ≡ storing component core ⌝ }
+// What a drive makes of the dimmer, by what the registers say now.
+pub fn drive(dimmer: Dimmer, all: &[u8; 256], drive: Drive) -> Dimmer
+    ensures { λ r. ⌜ r ≡ driven (now (all .entry)) drive dimmer ⌝ }
 {
-    let dimmer = core.dimmer;
-    let percent = dimmer.level.percent();
-    Effect {
-        core,
-        write: Write::Preset { component, percent },
+    match drive {
+        Drive::Activate(i) => {
+            let component = registers::places::component_at(all, i);
+            set_by(dimmer, all, component.level, component.rate)
+        }
+        Drive::Deactivate(i) => {
+            let component = registers::places::component_at(all, i);
+            set_by(dimmer, all, 0, component.rate)
+        }
+        Drive::Goto { level, rate } => set_by(dimmer, all, level, rate),
+        Drive::Stop => dimmer.stop(),
+        Drive::Blink(value) => dimmer.blink(value),
     }
+}
+
+// The write of a Store: the level, as a percent, becomes the component's.
+pub fn stored(level: Step, component: u8) -> Write
+    ensures { λ r. ⌜ r ≡ stored level component ⌝ }
+{
+    let percent = level.percent();
+    Write::Preset { component, percent }
 }

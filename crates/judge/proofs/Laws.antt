@@ -21,8 +21,11 @@ use Rattle.judge.specs.declared.Verb.{Verb}
 use Rattle.judge.specs.declared.Verb.the-variants.{Open, Close, Get, Set, Activate, Deactivate, Goto, FadeStart, FadeStop, Blink, Report, Store, Unlisted}
 use Rattle.judge.specs.declared.Order.{Order}
 use Rattle.judge.specs.declared.Order.the-variants as order
-use Rattle.judge.specs.Judge.{heard, targetOf, reached, verbOf, listed, argument, optional, values, suits, permitted, componentOf, ordered, judged, arguments, registersInRange}
-use Rattle.judge.specs.Promises.{Unheard, Takes, Range, Suits, Permitted, Reached, Listed, Suited, ByLink, Refusal, wrong-network, not-ours, not-listed, wrong-arguments, not-permitted, Level}
+use Rattle.judge.specs.declared.Work.{Work}
+use Rattle.judge.specs.declared.Work.the-variants as work
+use Rattle.judge.specs.declared.Drive.the-variants as drive
+use Rattle.judge.specs.Judge.{heard, targetOf, reached, verbOf, listed, argument, optional, values, suits, permitted, componentOf, driving, going, ordered, judged, arguments, registersInRange}
+use Rattle.judge.specs.Promises.{Unheard, Takes, Range, Suits, Permitted, Reached, Listed, Suited, ByLink, Refusal, wrong-network, not-ours, not-listed, wrong-arguments, not-permitted, Level, Row, Asked}
 use Rattle.judge.proofs.Checks.{heard-says, Aimed, aimed, reached-says, Number, numbered, listed-says, suits-says, permitted-says, component-says, component-is}
 use Rattle.judge.specs.Code.{numberOfOrder, Judged, JudgedExactly, NumberExactly, OnlyNineTo13, ChecksInOrder}
 
@@ -59,7 +62,7 @@ level (a ∷ b ∷ d ∷ []) c t e = inl (ap (λ x. x ∷ b ∷ d ∷ []) e)
 level (a ∷ b ∷ d ∷ f ∷ rest) c t e = absurd (omega arith)
 
 level-back : (m : List ℕ) (c level rate : ℕ) → Level c level rate m
-    → (argument m 0 ≡ c) × (Takes 1 2 m × (order.Goto (argument m 1) (optional m 2 255) ≡ order.Goto level rate))
+    → (argument m 0 ≡ c) × (Takes 1 2 m × (going m ≡ drive.Goto level rate))
 level-back m c level rate (inl e) = rw e (refl, (omega arith, refl))
 level-back m c level rate (inr w) = rw (w .0, w .1) (refl, (omega arith, refl))
 
@@ -76,24 +79,28 @@ range [] c t e = absurd (omega arith)
 range (a ∷ []) c t e = absurd (omega arith)
 range (a ∷ b ∷ rest) c t e = (ap (λ x. x ∷ b ∷ rest) e, (omega arith, (omega arith, omega arith)))
 
+-- A row that holds, by its three parts.
+pub row : {Comes When Says : Type 0} → Comes → When → Says → Row Comes When Says
+row comes when says = record { comes = comes; when = when; says = says }
+
 module _ (all : List ℕ) (mode : Mode) (h : Header) where
   module _ (m : List ℕ) where
     -- A command that passes every check is the order that its sentence says.
     accepted : (v : Verb) (t : Target) → Aimed t all h → reached t ≡ true → Number v (argument m 0)
         → Reached all h → Suits v m → Permitted v all mode h → Judged (ordered v t m) all mode h m
     unfolding ordered
-    accepted Open t a z n r s p = record { reached = r; comes = p .0; when = p .1; says = two m _ s n }
-    accepted Close t a z n r s p = record { reached = r; comes = p .0; when = p .1; says = none m _ s n }
-    accepted Get t a z n r s p = record { reached = r; comes = p; when = tt; says = (two m _ (s .0) n, s .1) }
-    accepted Set t a z n r s p = record { reached = r; comes = p .0; when = p .1; says = range m _ s n }
-    accepted Activate t a z n r s p = record { reached = r; comes = component-says all h t a z p; when = tt; says = none m _ s n }
-    accepted Deactivate t a z n r s p = record { reached = r; comes = component-says all h t a z p; when = tt; says = none m _ s n }
-    accepted Goto t a z n r s p = record { reached = r; comes = tt; when = tt; says = inl (level m _ s n) }
-    accepted FadeStart t a z n r s p = record { reached = r; comes = tt; when = tt; says = inr (level m _ s n, p) }
-    accepted FadeStop t a z n r s p = record { reached = r; comes = tt; when = tt; says = none m _ s n }
-    accepted Blink t a z n r s p = record { reached = r; comes = tt; when = tt; says = value m _ s n }
-    accepted Report t a z n r s p = record { reached = r; comes = p; when = tt; says = none m _ s n }
-    accepted Store t a z n r s p = record { reached = r; comes = component-says all h t a z p; when = tt; says = none m _ s n }
+    accepted Open t a z n r s p = record { reached = r; asked = row (p .0) (p .1) (two m _ s n) }
+    accepted Close t a z n r s p = record { reached = r; asked = row (p .0) (p .1) (none m _ s n) }
+    accepted Get t a z n r s p = record { reached = r; asked = row p tt (two m _ (s .0) n, s .1) }
+    accepted Set t a z n r s p = record { reached = r; asked = row (p .0) (p .1) (range m _ s n) }
+    accepted Activate t a z n r s p = record { reached = r; asked = row (component-says all h t a z p) tt (none m _ s n) }
+    accepted Deactivate t a z n r s p = record { reached = r; asked = row (component-says all h t a z p) tt (none m _ s n) }
+    accepted Goto t a z n r s p = record { reached = r; asked = row tt tt (inl (level m _ s n)) }
+    accepted FadeStart t a z n r s p = record { reached = r; asked = row tt tt (inr (level m _ s n, p)) }
+    accepted FadeStop t a z n r s p = record { reached = r; asked = row tt tt (none m _ s n) }
+    accepted Blink t a z n r s p = record { reached = r; asked = row tt tt (value m _ s n) }
+    accepted Report t a z n r s p = record { reached = r; asked = row p tt (none m _ s n) }
+    accepted Store t a z n r s p = record { reached = r; asked = row (component-says all h t a z p) tt (none m _ s n) }
     accepted Unlisted t a z n r s p = absurd p
 
     -- What is judged meets its row of the table, or its command's sentence.
@@ -157,25 +164,28 @@ module _ (all : List ℕ) (mode : Mode) (h : Header) where
   pub only : (o : Order) (m : List ℕ) → Judged o all mode h m → judged all mode h m ≡ o
   unfolding verbOf ordered
   only (order.Refused n) m g = refused n m g
-  only (order.Open guess) m g = rw (g .says) (passes _ Open refl refl (g .reached) (omega arith) (g .comes, g .when))
-  only order.Close m g = rw (g .says) (passes _ Close refl refl (g .reached) (omega arith) (g .comes, g .when))
-  only (order.Get first count) m g = rw (g .says .0) (passes _ Get refl refl (g .reached) (omega arith, g .says .1) (g .comes))
-  only (order.Set first) m g = rw (g .says .0) (passes _ Set refl refl (g .reached) (omega arith) (g .comes, g .when))
-  only (order.Activate i) m g = rw (g .says) (passes _ Activate refl refl (g .reached) (omega arith) (g .comes .0) ∙ ap order.Activate (mine i (g .reached) (g .comes)))
-  only (order.Deactivate i) m g = rw (g .says) (passes _ Deactivate refl refl (g .reached) (omega arith) (g .comes .0) ∙ ap order.Deactivate (mine i (g .reached) (g .comes)))
-  only (order.Goto level rate) m g =
-      ⊎-elim
-      (λ w. let b = level-back m 0x22 level rate w in passes m Goto (ap verbOf (b .0)) refl (g .reached) (b .1 .0) tt ∙ b .1 .1)
-      (λ w. let b = level-back m 0x23 level rate (w .0) in passes m FadeStart (ap verbOf (b .0)) refl (g .reached) (b .1 .0) (w .1) ∙ b .1 .1)
-      (g .says)
-  only order.Stop m g = rw (g .says) (passes _ FadeStop refl refl (g .reached) (omega arith) tt)
-  only (order.Blink value) m g =
-      ⊎-elim
-      (λ w. rw w (passes _ Blink refl refl (g .reached) (omega arith) tt))
-      (λ w. rw (w .0, w .1) (passes _ Blink refl refl (g .reached) (omega arith) tt))
-      (g .says)
-  only order.Report m g = rw (g .says) (passes _ Report refl refl (g .reached) (omega arith) (g .comes))
-  only (order.Store i) m g = rw (g .says) (passes _ Store refl refl (g .reached) (omega arith) (g .comes .0) ∙ ap order.Store (mine i (g .reached) (g .comes)))
+  only (order.Guess guess) m g = rw (g .asked .says) (passes _ Open refl refl (g .reached) (omega arith) (g .asked .comes, g .asked .when))
+  only (order.Read first count) m g = rw (g .asked .says .0) (passes _ Get refl refl (g .reached) (omega arith, g .asked .says .1) (g .asked .comes))
+  only (order.Work w) m g = works w (g .reached) (g .asked)
+    where
+      works : (w : Work) → Reached all h → Asked (order.Work w) all mode h m → judged all mode h m ≡ order.Work w
+      works work.Report r a = rw (a .says) (passes _ Report refl refl r (omega arith) (a .comes))
+      works work.Close r a = rw (a .says) (passes _ Close refl refl r (omega arith) (a .comes, a .when))
+      works (work.Set first) r a = rw (a .says .0) (passes _ Set refl refl r (omega arith) (a .comes, a .when))
+      works (work.Store i) r a = rw (a .says) (passes _ Store refl refl r (omega arith) (a .comes .0) ∙ ap (λ i. order.Work (work.Store i)) (mine i r (a .comes)))
+      works (work.Drive (drive.Activate i)) r a = rw (a .says) (passes _ Activate refl refl r (omega arith) (a .comes .0) ∙ ap (λ i. driving (drive.Activate i)) (mine i r (a .comes)))
+      works (work.Drive (drive.Deactivate i)) r a = rw (a .says) (passes _ Deactivate refl refl r (omega arith) (a .comes .0) ∙ ap (λ i. driving (drive.Deactivate i)) (mine i r (a .comes)))
+      works (work.Drive (drive.Goto level rate)) r a =
+          ⊎-elim
+          (λ w. let b = level-back m 0x22 level rate w in passes m Goto (ap verbOf (b .0)) refl r (b .1 .0) tt ∙ ap driving (b .1 .1))
+          (λ w. let b = level-back m 0x23 level rate (w .0) in passes m FadeStart (ap verbOf (b .0)) refl r (b .1 .0) (w .1) ∙ ap driving (b .1 .1))
+          (a .says)
+      works (work.Drive drive.Stop) r a = rw (a .says) (passes _ FadeStop refl refl r (omega arith) tt)
+      works (work.Drive (drive.Blink value)) r a =
+          ⊎-elim
+          (λ w. rw w (passes _ Blink refl refl r (omega arith) tt))
+          (λ w. rw (w .0, w .1) (passes _ Blink refl refl r (omega arith) tt))
+          (a .says)
 
 -- Each number and each order is given exactly when document 01 says.
 pub exactly : JudgedExactly
@@ -196,17 +206,9 @@ only-these n all mode h m (not-permitted p u) = omega arith
 -- An answer's number is 0, or its row holds.
 row-or-0 : (o : Order) (all : List ℕ) (mode : Mode) (h : Header) (m : List ℕ) → Judged o all mode h m → (numberOfOrder o ≡ 0) ⊎ Refusal all mode h m (numberOfOrder o)
 row-or-0 (order.Refused n) all mode h m g = inr g
-row-or-0 (order.Open guess) all mode h m g = inl refl
-row-or-0 order.Close all mode h m g = inl refl
-row-or-0 (order.Get first count) all mode h m g = inl refl
-row-or-0 (order.Set first) all mode h m g = inl refl
-row-or-0 (order.Activate i) all mode h m g = inl refl
-row-or-0 (order.Deactivate i) all mode h m g = inl refl
-row-or-0 (order.Goto level rate) all mode h m g = inl refl
-row-or-0 order.Stop all mode h m g = inl refl
-row-or-0 (order.Blink value) all mode h m g = inl refl
-row-or-0 order.Report all mode h m g = inl refl
-row-or-0 (order.Store i) all mode h m g = inl refl
+row-or-0 (order.Guess guess) all mode h m g = inl refl
+row-or-0 (order.Read first count) all mode h m g = inl refl
+row-or-0 (order.Work w) all mode h m g = inl refl
 
 -- Each number is given exactly when its row of the table says.
 pub number-exactly : NumberExactly

@@ -1,6 +1,5 @@
 -- What the code and the proofs are cut by: no promise under the roof needs a definition of this file.
 use Prim.Native.Nat.{ℕ, _≤_}
-use Rattle.judge.specs.declared.Verb.the-variants.{Open, Close, Get, Set, Activate, Deactivate, Goto, Blink, Report, Store}
 use Rattle.judge.specs.declared.Order.{Order}
 use Rattle.judge.specs.declared.Order.the-variants as order
 use Rattle.judge.specs.Judge.{judged}
@@ -16,32 +15,16 @@ use Rattle.packet.specs.declared.Header.{Header}
 -- The number of an order: that of the refusal, or 0.
 abbrev pub numberOfOrder : Order → ℕ
 numberOfOrder (order.Refused n) = n
-numberOfOrder (order.Open guess) = 0
-numberOfOrder order.Close = 0
-numberOfOrder (order.Get first count) = 0
-numberOfOrder (order.Set first) = 0
-numberOfOrder (order.Activate i) = 0
-numberOfOrder (order.Deactivate i) = 0
-numberOfOrder (order.Goto level rate) = 0
-numberOfOrder order.Stop = 0
-numberOfOrder (order.Blink value) = 0
-numberOfOrder order.Report = 0
-numberOfOrder (order.Store i) = 0
+numberOfOrder (order.Guess guess) = 0
+numberOfOrder (order.Read first count) = 0
+numberOfOrder (order.Work w) = 0
 
 -- What holds where an order is answered: its row of 01's table of numbers, or what its command asks of the packet.
 abbrev pub Judged : Order → List ℕ → Mode → Header → List ℕ → Type 0
 Judged (order.Refused n) all mode h m = Refusal all mode h m n
-Judged (order.Open guess) all mode h m = Accepted (order.Open guess) all mode h m
-Judged order.Close all mode h m = Accepted order.Close all mode h m
-Judged (order.Get first count) all mode h m = Accepted (order.Get first count) all mode h m
-Judged (order.Set first) all mode h m = Accepted (order.Set first) all mode h m
-Judged (order.Activate i) all mode h m = Accepted (order.Activate i) all mode h m
-Judged (order.Deactivate i) all mode h m = Accepted (order.Deactivate i) all mode h m
-Judged (order.Goto level rate) all mode h m = Accepted (order.Goto level rate) all mode h m
-Judged order.Stop all mode h m = Accepted order.Stop all mode h m
-Judged (order.Blink value) all mode h m = Accepted (order.Blink value) all mode h m
-Judged order.Report all mode h m = Accepted order.Report all mode h m
-Judged (order.Store i) all mode h m = Accepted (order.Store i) all mode h m
+Judged (order.Guess guess) all mode h m = Accepted (order.Guess guess) all mode h m
+Judged (order.Read first count) all mode h m = Accepted (order.Read first count) all mode h m
+Judged (order.Work w) all mode h m = Accepted (order.Work w) all mode h m
 
 -- Each order is answered exactly where that holds.
 abbrev pub JudgedExactly : Type 0

@@ -20,6 +20,9 @@ use Rattle.judge.specs.declared.Verb.{Verb}
 use Rattle.judge.specs.declared.Verb.the-variants.{Open, Close, Get, Set, Activate, Deactivate, Goto, FadeStart, FadeStop, Blink, Report, Store, Unlisted}
 use Rattle.judge.specs.declared.Order.{Order}
 use Rattle.judge.specs.declared.Order.the-variants as order
+use Rattle.judge.specs.declared.Work.the-variants as work
+use Rattle.judge.specs.declared.Drive.{Drive}
+use Rattle.judge.specs.declared.Drive.the-variants as drive
 
 -- 01, Answer numbers, row 9: network 0 and our own are heard.
 unfoldable pub heard : List ℕ → ℕ → Bool
@@ -169,21 +172,29 @@ componentOf Everyone = 0
 componentOf Us = 0
 componentOf (Component i) = i
 
--- The command with its arguments. A missing rate is 255, which means the default rate (01, Levels and fades, 4); a Blink's missing value is
--- 0, which means 30 (10). Goto and Fade Start ask for the same.
+-- An order for the dimmer.
+abbrev pub driving : Drive → Order
+driving d = order.Work (work.Drive d)
+
+-- 01, Commands, 2: a level and perhaps a rate. A missing rate is 255, which means the default rate (01, Levels and fades, 4).
+abbrev pub going : List ℕ → Drive
+going message = drive.Goto (argument message 1) (optional message 2 255)
+
+-- The command with its arguments. Goto and Fade Start ask for the same; a Blink's missing value is 0, which means 30 (01, Levels and fades,
+-- 10).
 unfoldable pub ordered : Verb → Target → List ℕ → Order
-ordered Open target message = order.Open (password (argument message 1) (argument message 2))
-ordered Close target message = order.Close
-ordered Get target message = order.Get (argument message 1) (argument message 2)
-ordered Set target message = order.Set (argument message 1)
-ordered Activate target message = order.Activate (componentOf target)
-ordered Deactivate target message = order.Deactivate (componentOf target)
-ordered Goto target message = order.Goto (argument message 1) (optional message 2 255)
-ordered FadeStart target message = order.Goto (argument message 1) (optional message 2 255)
-ordered FadeStop target message = order.Stop
-ordered Blink target message = order.Blink (optional message 1 0)
-ordered Report target message = order.Report
-ordered Store target message = order.Store (componentOf target)
+ordered Open target message = order.Guess (password (argument message 1) (argument message 2))
+ordered Close target message = order.Work work.Close
+ordered Get target message = order.Read (argument message 1) (argument message 2)
+ordered Set target message = order.Work (work.Set (argument message 1))
+ordered Activate target message = driving (drive.Activate (componentOf target))
+ordered Deactivate target message = driving (drive.Deactivate (componentOf target))
+ordered Goto target message = driving (going message)
+ordered FadeStart target message = driving (going message)
+ordered FadeStop target message = driving drive.Stop
+ordered Blink target message = driving (drive.Blink (optional message 1 0))
+ordered Report target message = order.Work work.Report
+ordered Store target message = order.Work (work.Store (componentOf target))
 ordered Unlisted target message = order.Refused 11
 
 -- 01, Answer numbers, 1: the checks 9 to 13, rising. 14 comes with the password.

@@ -17,6 +17,8 @@ use Rattle.judge.specs.declared.Verb.{Verb}
 use Rattle.judge.specs.declared.Verb.the-variants.{Open, Close, Get, Set, Activate, Deactivate, Goto, FadeStart, FadeStop, Blink, Report, Store, Unlisted}
 use Rattle.judge.specs.declared.Order.{Order}
 use Rattle.judge.specs.declared.Order.the-variants as order
+use Rattle.judge.specs.declared.Work.the-variants as work
+use Rattle.judge.specs.declared.Drive.the-variants as drive
 use Rattle.judge.specs.Judge.{argument, values, verbOf}
 
 -- 01, Answer numbers, row 9: another network than 0 and our own.
@@ -118,58 +120,37 @@ pub data Refusal (all : List ℕ) (mode : Mode) (h : Header) (m : List ℕ) : �
 abbrev pub ByLink : ℕ → List ℕ → Header → Type 0
 ByLink i all h = (h .link ≡ true) × (found all (h .destination) ≡ At i)
 
--- 01, Commands, 1 to 4: the packets by which an order can come: by link, direct to our own unit, direct (destination 0 too), or any.
-abbrev pub Comes : Order → List ℕ → Header → Type 0
-Comes (order.Refused n) all h = ⊥
-Comes (order.Open guess) all h = ToUs all h
-Comes order.Close all h = h .link ≡ false
-Comes (order.Get first count) all h = AskedToReply all h
-Comes (order.Set first) all h = ToUs all h
-Comes (order.Activate i) all h = ByLink i all h
-Comes (order.Deactivate i) all h = ByLink i all h
-Comes (order.Goto level rate) all h = Unit {0}
-Comes order.Stop all h = Unit {0}
-Comes (order.Blink value) all h = Unit {0}
-Comes order.Report all h = AskedToReply all h
-Comes (order.Store i) all h = ByLink i all h
-
--- 01, Commands, 3 and 4: the modes in which it can come: Start Setup in Normal, Set and Stop Setup in Setup, the rest in any.
-abbrev pub When : Order → Mode → Type 0
-When (order.Refused n) mode = ⊥
-When (order.Open guess) mode = mode ≡ Normal
-When order.Close mode = mode ≡ Setup
-When (order.Get first count) mode = Unit {0}
-When (order.Set first) mode = mode ≡ Setup
-When (order.Activate i) mode = Unit {0}
-When (order.Deactivate i) mode = Unit {0}
-When (order.Goto level rate) mode = Unit {0}
-When order.Stop mode = Unit {0}
-When (order.Blink value) mode = Unit {0}
-When order.Report mode = Unit {0}
-When (order.Store i) mode = Unit {0}
-
 -- 01, Commands, 2: a command's level with its rate, or without: then the rate is 255.
 abbrev pub Level : ℕ → ℕ → ℕ → List ℕ → Type 0
 Level command level rate m = (m ≡ command ∷ level ∷ rate ∷ []) ⊎ ((m ≡ command ∷ level ∷ []) × (rate ≡ 255))
 
--- 01, Commands, 1 to 4: the messages that ask for it.
-abbrev pub Says : Order → List ℕ → List ℕ → Type 0
-Says (order.Refused n) all m = ⊥
-Says (order.Open guess) all m = m ≡ 0x03 ∷ guess .0 ∷ guess .1 ∷ []
-Says order.Close all m = m ≡ 0x04 ∷ []
-Says (order.Get first count) all m = (m ≡ 0x10 ∷ first ∷ count ∷ []) × Range first count
-Says (order.Set first) all m = (m ≡ 0x11 ∷ first ∷ drop 2 m) × Range first (length (drop 2 m))
-Says (order.Activate i) all m = m ≡ 0x20 ∷ []
-Says (order.Deactivate i) all m = m ≡ 0x21 ∷ []
-Says (order.Goto level rate) all m = Level 0x22 level rate m ⊎ (Level 0x23 level rate m × Capable all)
-Says order.Stop all m = m ≡ 0x24 ∷ []
-Says (order.Blink value) all m = (m ≡ 0x25 ∷ value ∷ []) ⊎ ((m ≡ 0x25 ∷ []) × (value ≡ 0))
-Says order.Report all m = m ≡ 0x30 ∷ []
-Says (order.Store i) all m = m ≡ 0x31 ∷ []
+-- A row of the table below: the packets that a command comes by, the modes that it comes in, and the messages that ask for it.
+pub record Row (Comes When Says : Type 0) : Type 0 where
+  pub comes : Comes
+  pub when : When
+  pub says : Says
 
--- An order that is to be done: the packet passes 9 and 10, and comes by the right packet, in the right mode, with the right message.
+-- What a row leaves open.
+abbrev pub Any : Type 0
+Any = Unit {0}
+
+-- 01, Commands, 1 to 4: a row for each order that is to be done. Packets come by link, direct to our own unit, direct (destination 0 too),
+-- or by any way; Start Setup comes in Normal, Set and Stop Setup in Setup, the rest in any mode.
+abbrev pub Asked : Order → List ℕ → Mode → Header → List ℕ → Type 0
+Asked (order.Refused n) all mode h m = ⊥
+Asked (order.Guess guess) all mode h m = Row (ToUs all h) (mode ≡ Normal) (m ≡ 0x03 ∷ guess .0 ∷ guess .1 ∷ [])
+Asked (order.Read first count) all mode h m = Row (AskedToReply all h) Any ((m ≡ 0x10 ∷ first ∷ count ∷ []) × Range first count)
+Asked (order.Work work.Report) all mode h m = Row (AskedToReply all h) Any (m ≡ 0x30 ∷ [])
+Asked (order.Work work.Close) all mode h m = Row (h .link ≡ false) (mode ≡ Setup) (m ≡ 0x04 ∷ [])
+Asked (order.Work (work.Set first)) all mode h m = Row (ToUs all h) (mode ≡ Setup) ((m ≡ 0x11 ∷ first ∷ drop 2 m) × Range first (length (drop 2 m)))
+Asked (order.Work (work.Store i)) all mode h m = Row (ByLink i all h) Any (m ≡ 0x31 ∷ [])
+Asked (order.Work (work.Drive (drive.Activate i))) all mode h m = Row (ByLink i all h) Any (m ≡ 0x20 ∷ [])
+Asked (order.Work (work.Drive (drive.Deactivate i))) all mode h m = Row (ByLink i all h) Any (m ≡ 0x21 ∷ [])
+Asked (order.Work (work.Drive (drive.Goto level rate))) all mode h m = Row Any Any (Level 0x22 level rate m ⊎ (Level 0x23 level rate m × Capable all))
+Asked (order.Work (work.Drive drive.Stop)) all mode h m = Row Any Any (m ≡ 0x24 ∷ [])
+Asked (order.Work (work.Drive (drive.Blink value))) all mode h m = Row Any Any ((m ≡ 0x25 ∷ value ∷ []) ⊎ ((m ≡ 0x25 ∷ []) × (value ≡ 0)))
+
+-- An order that is to be done: the packet passes 9 and 10, and the order's row holds of it.
 pub record Accepted (o : Order) (all : List ℕ) (mode : Mode) (h : Header) (m : List ℕ) : Type 0 where
   pub reached : Reached all h
-  pub comes : Comes o all h
-  pub when : When o mode
-  pub says : Says o all m
+  pub asked : Asked o all mode h m

@@ -2,7 +2,7 @@
 // switch's own password does not come here.
 ghost use mathlib.Core.Path.{_≡_};
 ghost use Rattle.vault.specs.Vault.{inSetup};
-ghost use Rattle.judge.specs.Judge.{heard, directly, matching, targetOf, reached, verbOf, listed, argument, arguments, registersInRange, values, suits, toUs, directTo, byLink, isNormal, permitted, componentOf, optional, ordered, judged};
+ghost use Rattle.judge.specs.Judge.{heard, directly, matching, targetOf, reached, verbOf, listed, argument, arguments, registersInRange, values, suits, toUs, directTo, byLink, isNormal, permitted, componentOf, optional, driving, going, ordered, judged};
 use dimmer::Options;
 use packet::Header;
 use registers::Found;
@@ -34,21 +34,32 @@ pub enum Verb {
     Unlisted,
 }
 
-// What is to be done: the refusal's number, or the command with its arguments. A missing rate is 255, a missing value 0. The values of a
-// Set stand in the message from byte 2 on.
+// What is to be done: the refusal's number, a guess to be compared with the password (Start Setup), a range of registers to be read (Get
+// Registers), or work that the password has no part in.
 pub enum Order {
     Refused(u8),
-    Open(Password),
+    Guess(Password),
+    Read { first: u8, count: u8 },
+    Work(Work),
+}
+
+// Report answers the level, Close is Stop Setup, Set is Set Registers (its values stand in the message from byte 2 on), Store is Store
+// Preset of a component, Drive is for the dimmer.
+pub enum Work {
+    Report,
     Close,
-    Get { first: u8, count: u8 },
     Set { first: u8 },
+    Store(u8),
+    Drive(Drive),
+}
+
+// A missing rate is 255, a missing value 0.
+pub enum Drive {
     Activate(u8),
     Deactivate(u8),
     Goto { level: u8, rate: u8 },
     Stop,
     Blink(u8),
-    Report,
-    Store(u8),
 }
 
 // The most registers that one Get or Set may name.
@@ -196,6 +207,22 @@ fn in_setup(mode: Mode) -> bool
     }
 }
 
+fn driving(drive: Drive) -> Order
+    ensures { λ r. ⌜ r ≡ driving drive ⌝ }
+{
+    Order::Work(Work::Drive(drive))
+}
+
+// A level and perhaps a rate.
+fn going(message: &[u8]) -> Drive
+    ensures { λ r. ⌜ r ≡ going (now (message .entry)) ⌝ }
+{
+    Drive::Goto {
+        level: argument(message, 1),
+        rate: optional(message, 2, DEFAULT),
+    }
+}
+
 impl Target {
     fn reached(self) -> bool
         ensures { λ r. ⌜ r ≡ reached self ⌝ }
@@ -321,29 +348,23 @@ impl Verb {
         ensures { λ r. ⌜ r ≡ ordered self target (now (message .entry)) ⌝ }
     {
         match self {
-            Verb::Open => Order::Open(Password(argument(message, 1), argument(message, 2))),
-            Verb::Close => Order::Close,
-            Verb::Get => Order::Get {
+            Verb::Open => Order::Guess(Password(argument(message, 1), argument(message, 2))),
+            Verb::Close => Order::Work(Work::Close),
+            Verb::Get => Order::Read {
                 first: argument(message, 1),
                 count: argument(message, 2),
             },
-            Verb::Set => Order::Set {
+            Verb::Set => Order::Work(Work::Set {
                 first: argument(message, 1),
-            },
-            Verb::Activate => Order::Activate(target.component()),
-            Verb::Deactivate => Order::Deactivate(target.component()),
-            Verb::Goto => Order::Goto {
-                level: argument(message, 1),
-                rate: optional(message, 2, DEFAULT),
-            },
-            Verb::FadeStart => Order::Goto {
-                level: argument(message, 1),
-                rate: optional(message, 2, DEFAULT),
-            },
-            Verb::FadeStop => Order::Stop,
-            Verb::Blink => Order::Blink(optional(message, 1, 0)),
-            Verb::Report => Order::Report,
-            Verb::Store => Order::Store(target.component()),
+            }),
+            Verb::Activate => driving(Drive::Activate(target.component())),
+            Verb::Deactivate => driving(Drive::Deactivate(target.component())),
+            Verb::Goto => driving(going(message)),
+            Verb::FadeStart => driving(going(message)),
+            Verb::FadeStop => driving(Drive::Stop),
+            Verb::Blink => driving(Drive::Blink(optional(message, 1, 0))),
+            Verb::Report => Order::Work(Work::Report),
+            Verb::Store => Order::Work(Work::Store(target.component())),
             Verb::Unlisted => Order::Refused(11),
         }
     }

@@ -43,24 +43,26 @@ use Rattle.judge.specs.Judge.{judged}
 use Rattle.judge.specs.Promises.{Accepted}
 use Rattle.judge.specs.declared.Order.{Order}
 use Rattle.judge.specs.declared.Order.the-variants as order
+use Rattle.judge.specs.declared.Work.{Work}
+use Rattle.judge.specs.declared.Work.the-variants as work
 use Rattle.judge.proofs.Laws.{asks}
 use Rattle.acts.specs.Core.{aged, entering, opened, saved, setting, stopping, toSave, unwritten, signalled}
 use Rattle.acts.specs.Gestures.{acted, actedIn, byAction, holding, actedInFactory, actedInNormal, actedInSetup, leads, tapsInFactory, tapsInNormal, tapsInSetup, writes}
 use Rattle.acts.specs.declared.Core.{Core}
 use Rattle.acts.specs.declared.Effect.{Effect}
-use Rattle.acts.specs.Orders.{performed, storing}
-use Rattle.acts.proofs.Laws.{gesture-writes, order-writes}
-use Rattle.acts.specs.Code.{orderWrites}
+use Rattle.acts.specs.Orders.{stored}
+use Rattle.acts.proofs.Laws.{gesture-writes, work-writes}
+use Rattle.acts.specs.Code.{workWrites}
 use Rattle.registers.specs.declared.Seen.the-variants as seen
 use Rattle.post.specs.declared.Reply.the-variants as reply
 use Rattle.switch.specs.Switch.{Deed, Event, Plain, Shown, event, press, receive, release, restart, tick}
 use Rattle.switch.specs.Paddles.{Moment, after, turned, turns}
-use Rattle.switch.specs.Events.{SwitchJob, outcomeOf, begun, jobOfDeed, finished, garbled, gestureAt, jobOfGet, job, kindOf, known, plainAfter, jobOfAct, jobOfGuess, jobOfOrder, paddleAt, paddleOf, jobOfPress, jobOfFrame, jobOfBytes, refused, jobOfRelease, jobOfRestart, signalledBy, jobOfTick, woken}
+use Rattle.switch.specs.Events.{SwitchJob, outcomeOf, begun, jobOfDeed, finished, garbled, gestureAt, jobOfRead, job, kindOf, known, plainAfter, jobOfWork, jobOfGuess, jobOfOrder, paddleAt, paddleOf, jobOfPress, jobOfFrame, jobOfBytes, refused, jobOfRelease, jobOfRestart, signalledBy, jobOfTick, woken}
 use Rattle.switch.specs.Respond.{respond}
 use Rattle.promises.specs.Bounds.{Sane}
 use Rattle.promises.specs.Modes.{modeFor}
 use Rattle.promises.specs.Numbers.{Asks}
-use Rattle.promises.specs.Alters.{Alters, Cause, EachWrite, FactorySet, Misses, OneEquation, OnlyCauses, OthersStay, PasswordSafe, SetAt, StoredAt, Writing, bare, byDeed, byteAt, byFrame, byOrder, byPaddles, bySaving, bytesAfter, five-taps, no-write, restarted, right-guess, saved as saved-480th, set, stored, ten-taps, writesOf, writing}
+use Rattle.promises.specs.Alters.{Alters, Cause, EachWrite, FactorySet, Misses, OneEquation, OnlyCauses, OthersStay, PasswordSafe, SetAt, StoredAt, Writing, bare, byDeed, byteAt, byFrame, byOrder, byPaddles, bySaving, bytesAfter, five-taps, no-write, restarted, right-guess, saved as saved-480th, set, stored as preset-stored, ten-taps, writesOf, writing}
 use Rattle.promises.proofs.Modes.{turned-mode}
 
 -- ---- writes one after the other
@@ -264,18 +266,20 @@ module _ (s : Switch Plain) where
   restart-says = (refl, refl)
 
   -- A packet.
-  obeyed-says : (o : Order) (source : ℕ) (values : List ℕ) → Says s (writing (orderWrites o (p .core .dimmer .level)) values ∷ []) (settled (s .password) (jobOfAct o source values p))
-  unfolding jobOfAct outcomeOf plainAfter settled written rewritten
-  obeyed-says o source values =
-      let same = order-writes (p .registers) o (p .core) in
+  obeyed-says : (w : Work) (source : ℕ) (values : List ℕ) → Says s (writing (workWrites w (p .core .dimmer .level)) values ∷ []) (settled (s .password) (jobOfWork w source values p))
+  unfolding jobOfWork outcomeOf plainAfter settled written rewritten
+  obeyed-says w source values =
+      let same = work-writes (p .registers) w (p .core) in
       (ap (λ (w : Write). applied w values (p .registers)) same, ap (λ (w : Write). changed (changeOf w values) (s .password)) same)
 
-  -- An order that writes nothing.
-  quiet-says : (o : Order) (source : ℕ) (values : List ℕ) → orderWrites o (p .core .dimmer .level) ≡ write.Nothing → Says s [] (settled (s .password) (jobOfAct o source values p))
-  unfolding written rewritten applied changeOf changeAt changed became
-  quiet-says o source values none =
-      let one = obeyed-says o source values in
-      (one .0 ∙ ap (λ (w : Write). applied w values (p .registers)) none, one .1 ∙ ap (λ (w : Write). changed (changeOf w values) (s .password)) none)
+  -- Only Set Registers brings values; a work that writes nothing leaves all as it is.
+  work-says : (w : Work) (source : ℕ) (values : List ℕ) → Says s (byOrder s (order.Work w) values) (settled (s .password) (jobOfWork w source values p))
+  unfolding byOrder workWrites stored written rewritten applied changeOf changeAt changed became
+  work-says work.Report source values = obeyed-says work.Report source values
+  work-says work.Close source values = obeyed-says work.Close source values
+  work-says (work.Set first) source values = obeyed-says (work.Set first) source values
+  work-says (work.Store i) source values = obeyed-says (work.Store i) source values
+  work-says (work.Drive d) source values = obeyed-says (work.Drive d) source values
 
   abbrev opens : Outcome Plain Shown
   opens = outcomeOf (opened (p .core)) [] 0 reply.Silence p seen.Hidden
@@ -285,32 +289,20 @@ module _ (s : Switch Plain) where
   guess-says true = (refl, refl)
   guess-says false = (refl, refl)
 
-  open-says : (guess : Password) (values : List ℕ) → Says s (byOrder s (order.Open guess) values) (settled (s .password) (jobOfGuess guess p))
+  open-says : (guess : Password) (values : List ℕ) → Says s (byOrder s (order.Guess guess) values) (settled (s .password) (jobOfGuess guess p))
   unfolding byOrder jobOfGuess settled
   open-says guess values = guess-says (matches (s .password) guess)
 
-  get-says : (first count source : ℕ) → Says s [] (settled (s .password) (jobOfGet first count source p))
-  unfolding jobOfGet outcomeOf plainAfter performed unwritten applied written rewritten settled changed became
+  get-says : (first count source : ℕ) → Says s [] (settled (s .password) (jobOfRead first count source p))
+  unfolding jobOfRead outcomeOf plainAfter unwritten applied written rewritten settled changed became
   get-says first count source = both (λ (j : SwitchJob). Says s [] (settled (s .password) j)) (inSetup (p .core .mode)) (refl, refl) (refl, refl)
 
-  store-says : (i source : ℕ) (values : List ℕ) → Says s (byOrder s (order.Store i) values) (settled (s .password) (jobOfAct (order.Store i) source values p))
-  unfolding byOrder jobOfAct outcomeOf plainAfter performed storing settled written rewritten applied changeOf changeAt
-  store-says i source values = (refl, refl)
-
   order-says : (o : Order) (source : ℕ) (values : List ℕ) → Says s (byOrder s o values) (settled (s .password) (jobOfOrder o source values p))
-  unfolding byOrder jobOfOrder orderWrites
+  unfolding byOrder jobOfOrder
   order-says (order.Refused n) source values = refused-says n
-  order-says (order.Open guess) source values = open-says guess values
-  order-says order.Close source values = quiet-says order.Close source values refl
-  order-says (order.Get first count) source values = get-says first count source
-  order-says (order.Set first) source values = obeyed-says (order.Set first) source values
-  order-says (order.Activate i) source values = quiet-says (order.Activate i) source values refl
-  order-says (order.Deactivate i) source values = quiet-says (order.Deactivate i) source values refl
-  order-says (order.Goto level rate) source values = quiet-says (order.Goto level rate) source values refl
-  order-says order.Stop source values = quiet-says order.Stop source values refl
-  order-says (order.Blink value) source values = quiet-says (order.Blink value) source values refl
-  order-says order.Report source values = quiet-says order.Report source values refl
-  order-says (order.Store i) source values = store-says i source values
+  order-says (order.Guess guess) source values = open-says guess values
+  order-says (order.Read first count) source values = get-says first count source
+  order-says (order.Work w) source values = work-says w source values
 
   frame-says : (f : Frame) (message : List ℕ) → Says s (byFrame s f message) (settled (s .password) (jobOfFrame f message p))
   unfolding byFrame jobOfFrame
@@ -417,25 +409,21 @@ module _ (s : Switch Plain) where
     order-causes : (o : Order) → judged (plainOf .registers) (plainOf .core .mode) h (messageOf bytes) ≡ o → EachWrite (Cause s (receive bytes)) (byOrder s o (drop 2 (messageOf bytes)))
     unfolding byOrder
     order-causes (order.Refused n) e = tt
-    order-causes (order.Open guess) e =
+    order-causes (order.Guess guess) e =
         cases (EachWrite (Cause s (receive bytes))) (matches (s .password) guess)
         (λ m. (
           right-guess (receive bytes) (record {
-            start = record { bytes = bytes; guess = guess; received = refl; asks = asking (order.Open guess) (asks (order.Open guess) _ _ h _ e) };
+            start = record { bytes = bytes; guess = guess; received = refl; asks = asking (order.Guess guess) (asks (order.Guess guess) _ _ h _ e) };
             right = matches-equal (s .password) guess m;
           }),
           tt,
         )) (λ _. tt)
-    order-causes order.Close e = tt
-    order-causes (order.Get first count) e = tt
-    order-causes (order.Set first) e = (set bytes first (asking (order.Set first) (asks (order.Set first) _ _ h _ e)), tt)
-    order-causes (order.Activate i) e = tt
-    order-causes (order.Deactivate i) e = tt
-    order-causes (order.Goto level rate) e = tt
-    order-causes order.Stop e = tt
-    order-causes (order.Blink value) e = tt
-    order-causes order.Report e = tt
-    order-causes (order.Store i) e = (stored bytes i (asking (order.Store i) (asks (order.Store i) _ _ h _ e)), tt)
+    order-causes (order.Read first count) e = tt
+    order-causes (order.Work work.Report) e = tt
+    order-causes (order.Work work.Close) e = tt
+    order-causes (order.Work (work.Set first)) e = (set bytes first (asking (order.Work (work.Set first)) (asks (order.Work (work.Set first)) _ _ h _ e)), tt)
+    order-causes (order.Work (work.Store i)) e = (preset-stored bytes i (asking (order.Work (work.Store i)) (asks (order.Work (work.Store i)) _ _ h _ e)), tt)
+    order-causes (order.Work (work.Drive d)) e = tt
 
   frame-causes : (bytes : List ℕ) (f : Frame) → readOf bytes ≡ f → EachWrite (Cause s (receive bytes)) (byFrame s f (messageOf bytes))
   unfolding byFrame
@@ -477,7 +465,7 @@ module _ (s : Switch Plain) (place : ℕ) (P : ℕ → Type 0) (apart : Apart pl
   by-cause d byStore bySet byFactory w (five-taps _ c) n h = rw (apart .counters Setups) h
   by-cause d byStore bySet byFactory w (ten-taps i c) n h = byFactory _ (record { paddle = i; event = refl; closes = c; byte = apart .factory n })
   by-cause d byStore bySet byFactory w (right-guess _ c) n h = rw (apart .counters Setups) h
-  by-cause d byStore bySet byFactory w (stored bytes i a) n h =
+  by-cause d byStore bySet byFactory w (preset-stored bytes i a) n h =
       cases P (eqb place (levelPlace i)) (λ e. byStore _ (record { bytes = bytes; component = i; packet = refl; asks = a; at = eqb-true place (levelPlace i) e; byte = refl })) (λ _. h)
   by-cause d byStore bySet byFactory w (set bytes first a) n h =
       let values = drop 2 (messageOf bytes) in
@@ -489,7 +477,7 @@ module _ (s : Switch Plain) (place : ℕ) (P : ℕ → Type 0) (apart : Apart pl
         first = first;
         packet = refl;
         asks = a;
-        mode = a .accepted .when;
+        mode = a .accepted .asked .when;
         least = leb-true first place (parts .0);
         most = ltb-true place (first + length values) (parts .1);
         byte = refl;

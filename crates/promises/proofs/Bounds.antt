@@ -32,12 +32,13 @@ use Rattle.registers.proofs.Writing.{write-dead, write-length}
 use Rattle.judge.specs.Judge.{judged}
 use Rattle.judge.specs.declared.Order.{Order}
 use Rattle.judge.specs.declared.Order.the-variants as order
-use Rattle.acts.specs.Core.{aged, entering, opened, saved, signalled}
+use Rattle.judge.specs.declared.Work.{Work}
+use Rattle.acts.specs.Core.{aged, entering, opened, saved, signalled, unwritten}
 use Rattle.acts.specs.Gestures.{acted}
 use Rattle.acts.specs.Orders.{performed}
 use Rattle.acts.specs.declared.Core.{Core}
 use Rattle.acts.specs.declared.Effect.{Effect}
-use Rattle.acts.proofs.Laws.{Ranged, age-ranged, gesture-ranged, order-ranged, start-ranged}
+use Rattle.acts.proofs.Laws.{Ranged, age-ranged, gesture-ranged, work-ranged, start-ranged}
 use Rattle.post.specs.Post.{announced, headed, replied, replyMessage}
 use Rattle.post.specs.Promises.{Each}
 use Rattle.post.specs.declared.Reply.{Reply}
@@ -45,7 +46,7 @@ use Rattle.post.specs.declared.Reply.the-variants as reply
 use Rattle.post.proofs.Sending.{announced-one, announced-reads, each-so, enveloped-one, replied-reads}
 use Rattle.switch.specs.Switch.{Deed, Event, Plain, Shown, answerOf, answerWith, press, receive, release, restart, shown, tally, tick}
 use Rattle.switch.specs.Paddles.{Moment, after, turned, turns}
-use Rattle.switch.specs.Events.{SwitchJob, outcomeOf, begun, jobOfDeed, finished, garbled, gestureAt, jobOfGet, hueOf, job, known, plainAfter, jobOfAct, jobOfGuess, jobOfOrder, paddleOf, pressedAt, jobOfPress, jobOfFrame, jobOfBytes, refused, releasedAt, jobOfRelease, replyTo, jobOfRestart, signalledBy, jobOfTick, woken}
+use Rattle.switch.specs.Events.{SwitchJob, outcomeOf, begun, jobOfDeed, finished, garbled, gestureAt, jobOfRead, hueOf, job, known, plainAfter, jobOfWork, jobOfGuess, jobOfOrder, paddleOf, pressedAt, jobOfPress, jobOfFrame, jobOfBytes, refused, releasedAt, jobOfRelease, replyTo, jobOfRestart, signalledBy, jobOfTick, woken}
 use Rattle.switch.specs.Respond.{respond, startedFrom, wallSwitch}
 use Rattle.promises.specs.Bounds.{Bounded, OfSize, Sane, WithinBounds}
 use Rattle.promises.proofs.Outcomes.{Every, every-answer}
@@ -198,38 +199,28 @@ answering-fine e values source r p s k w =
     (omega (arith, enveloped-one (headed (now .registers) false source) (replyMessage (now .registers) s r percent)))
     (each-so sent (λ p c. (c .least, c .most)) (replied-reads (now .registers) s source r percent))
 
-obeying-fine : (o : Order) (source : ℕ) (values : List ℕ) (p : Plain) → Sane p → Fine (jobOfAct o source values p)
-unfolding jobOfAct
-obeying-fine o source values p k =
-    answering-fine (performed (p .registers) o (p .core)) values source (replyTo o) p seen.Hidden k (order-ranged (p .registers) o (p .core) (k .dimmer))
+obeying-fine : (w : Work) (source : ℕ) (values : List ℕ) (p : Plain) → Sane p → Fine (jobOfWork w source values p)
+unfolding jobOfWork
+obeying-fine w source values p k =
+    answering-fine (performed (p .registers) w (p .core)) values source (replyTo w) p seen.Hidden k (work-ranged (p .registers) w (p .core) (k .dimmer))
 
 opening-fine : (guess : Password) (p : Plain) → Sane p → Fine (jobOfGuess guess p)
 unfolding jobOfGuess opened entering
 opening-fine guess p k = (answering-fine (opened (p .core)) [] 0 reply.Silence p seen.Hidden k (k .dimmer), refused-fine 14 p k)
 
-getting-fine : (first count source : ℕ) (p : Plain) → Sane p → Fine (jobOfGet first count source p)
-unfolding jobOfGet outcomeOf
+getting-fine : (first count source : ℕ) (p : Plain) → Sane p → Fine (jobOfRead first count source p)
+unfolding jobOfRead outcomeOf unwritten
 getting-fine first count source p k =
-    let o = performed (p .registers) (order.Get first count) (p .core) in
     let r = reply.Registers first count in
-    let ranged = order-ranged (p .registers) (order.Get first count) (p .core) (k .dimmer) in
-    both Fine (inSetup (p .core .mode)) (λ w. answering-fine o [] source r p (seen.Shown w) k ranged)
-    (answering-fine o [] source r p seen.Hidden k ranged)
+    both Fine (inSetup (p .core .mode)) (λ w. answering-fine (unwritten (p .core)) [] source r p (seen.Shown w) k (k .dimmer))
+    (answering-fine (unwritten (p .core)) [] source r p seen.Hidden k (k .dimmer))
 
 ordering-fine : (o : Order) (source : ℕ) (values : List ℕ) (p : Plain) → Sane p → Fine (jobOfOrder o source values p)
 unfolding jobOfOrder
 ordering-fine (order.Refused n) source values p k = refused-fine n p k
-ordering-fine (order.Open guess) source values p k = opening-fine guess p k
-ordering-fine order.Close source values p k = obeying-fine order.Close source values p k
-ordering-fine (order.Get first count) source values p k = getting-fine first count source p k
-ordering-fine (order.Set first) source values p k = obeying-fine (order.Set first) source values p k
-ordering-fine (order.Activate i) source values p k = obeying-fine (order.Activate i) source values p k
-ordering-fine (order.Deactivate i) source values p k = obeying-fine (order.Deactivate i) source values p k
-ordering-fine (order.Goto level rate) source values p k = obeying-fine (order.Goto level rate) source values p k
-ordering-fine order.Stop source values p k = obeying-fine order.Stop source values p k
-ordering-fine (order.Blink value) source values p k = obeying-fine (order.Blink value) source values p k
-ordering-fine order.Report source values p k = obeying-fine order.Report source values p k
-ordering-fine (order.Store i) source values p k = obeying-fine (order.Store i) source values p k
+ordering-fine (order.Guess guess) source values p k = opening-fine guess p k
+ordering-fine (order.Read first count) source values p k = getting-fine first count source p k
+ordering-fine (order.Work w) source values p k = obeying-fine w source values p k
 
 reading-fine : (f : Frame) (m : List ℕ) (p : Plain) → Sane p → Fine (jobOfFrame f m p)
 unfolding jobOfFrame

@@ -28,16 +28,19 @@ use Rattle.registers.proofs.Writing.{password-whole}
 use Rattle.judge.specs.Judge.{judged}
 use Rattle.judge.specs.declared.Order.{Order}
 use Rattle.judge.specs.declared.Order.the-variants as order
+use Rattle.judge.specs.declared.Work.{Work}
+use Rattle.judge.specs.declared.Work.the-variants as work
 use Rattle.judge.proofs.Laws.{asks}
 use Rattle.acts.specs.Core.{aged, entering, opened, saved, toSave, signalled}
 use Rattle.acts.specs.Gestures.{acted, writes}
+use Rattle.acts.specs.Orders.{stored}
 use Rattle.acts.specs.declared.Core.{Core}
 use Rattle.acts.specs.declared.Effect.{Effect}
-use Rattle.acts.proofs.Laws.{gesture-writes, order-writes}
-use Rattle.acts.specs.Code.{orderWrites}
+use Rattle.acts.proofs.Laws.{gesture-writes, work-writes}
+use Rattle.acts.specs.Code.{workWrites}
 use Rattle.switch.specs.Switch.{Plain, Deed, press, release, tick, receive, restart}
 use Rattle.switch.specs.Paddles.{Moment, after, turned, turns}
-use Rattle.switch.specs.Events.{SwitchJob, outcomeOf, begun, jobOfDeed, finished, jobOfGet, job, known, plainAfter, jobOfAct, jobOfGuess, jobOfOrder, jobOfPress, jobOfBytes, jobOfFrame, jobOfRelease, jobOfRestart, jobOfTick}
+use Rattle.switch.specs.Events.{SwitchJob, outcomeOf, begun, jobOfDeed, finished, jobOfRead, job, known, plainAfter, jobOfWork, jobOfGuess, jobOfOrder, jobOfPress, jobOfBytes, jobOfFrame, jobOfRelease, jobOfRestart, jobOfTick}
 use Rattle.switch.specs.Respond.{wallSwitch}
 
 -- Both bytes of a change are kept, or both are put.
@@ -112,15 +115,15 @@ unfolding known
 known-fine p contact asked fine = both (Fine p) (ltb 3 contact) (λ _. tt) fine
 
 -- Set Registers is only accepted in Setup.
-set-in-setup : (p : Plain) (h : Header) (m : List ℕ) (first : ℕ) → judged (p .registers) (p .core .mode) h m ≡ order.Set first → inSetup (p .core .mode) ≡ false → ⊥
+set-in-setup : (p : Plain) (h : Header) (m : List ℕ) (first : ℕ) → judged (p .registers) (p .core .mode) h m ≡ order.Work (work.Set first) → inSetup (p .core .mode) ≡ false → ⊥
 unfolding inSetup
 set-in-setup p h m first e out =
-    true≢false (sym (ap inSetup (asks (order.Set first) (p .registers) (p .core .mode) h m e .when)) ∙ out)
+    true≢false (sym (ap inSetup (asks (order.Work (work.Set first)) (p .registers) (p .core .mode) h m e .asked .when)) ∙ out)
 
-obeying-fine : (p : Plain) (o : Order) (source : ℕ) (values : List ℕ) → Unset (orderWrites o (p .core .dimmer .level)) → Fine p (jobOfAct o source values p)
-unfolding jobOfAct
-obeying-fine p o source values u =
-    λ _. password-whole _ values (subst Unset (sym (order-writes (p .registers) o (p .core))) u)
+obeying-fine : (p : Plain) (w : Work) (source : ℕ) (values : List ℕ) → Unset (workWrites w (p .core .dimmer .level)) → Fine p (jobOfWork w source values p)
+unfolding jobOfWork
+obeying-fine p w source values u =
+    λ _. password-whole _ values (subst Unset (sym (work-writes (p .registers) w (p .core))) u)
 
 -- Start Setup: a right guess leaves Setup.
 opening-fine : (p : Plain) (guess : Password) → Fine p (jobOfGuess guess p)
@@ -128,28 +131,28 @@ unfolding jobOfGuess outcomeOf plainAfter signalled opened entering inSetup
 opening-fine p guess = refl
 
 -- Get Registers shows the password in Setup alone.
-getting-fine : (p : Plain) (first count source : ℕ) → Fine p (jobOfGet first count source p)
-unfolding jobOfGet
+getting-fine : (p : Plain) (first count source : ℕ) → Fine p (jobOfRead first count source p)
+unfolding jobOfRead
 getting-fine p first count source = cases (Fine p) (inSetup (p .core .mode)) (λ e. e) (λ _ _. tt)
 
-setting-fine : (p : Plain) (first source : ℕ) (values : List ℕ) → (inSetup (p .core .mode) ≡ false → ⊥) → Fine p (jobOfAct (order.Set first) source values p)
-unfolding jobOfAct
+setting-fine : (p : Plain) (first source : ℕ) (values : List ℕ) → (inSetup (p .core .mode) ≡ false → ⊥) → Fine p (jobOfWork (work.Set first) source values p)
+unfolding jobOfWork
 setting-fine p first source values only = λ out. absurd (only out)
 
+working-fine : (p : Plain) (h : Header) (m : List ℕ) (w : Work) (source : ℕ) (values : List ℕ) → judged (p .registers) (p .core .mode) h m ≡ order.Work w → Fine p (jobOfWork w source values p)
+unfolding workWrites stored
+working-fine p h m work.Report source values e = obeying-fine p work.Report source values unset-nothing
+working-fine p h m work.Close source values e = obeying-fine p work.Close source values unset-nothing
+working-fine p h m (work.Set first) source values e = setting-fine p first source values (set-in-setup p h m first e)
+working-fine p h m (work.Store i) source values e = obeying-fine p (work.Store i) source values (λ first e. let z : _≡_ {A = ℕ} 0 1 = cc in omega arith)
+working-fine p h m (work.Drive d) source values e = obeying-fine p (work.Drive d) source values unset-nothing
+
 ordering-fine : (p : Plain) (h : Header) (m : List ℕ) (o : Order) (source : ℕ) (values : List ℕ) → judged (p .registers) (p .core .mode) h m ≡ o → Fine p (jobOfOrder o source values p)
-unfolding jobOfOrder orderWrites
+unfolding jobOfOrder
 ordering-fine p h m (order.Refused n) source values e = λ _. tt
-ordering-fine p h m (order.Open guess) source values e = opening-fine p guess
-ordering-fine p h m order.Close source values e = obeying-fine p order.Close source values unset-nothing
-ordering-fine p h m (order.Get first count) source values e = getting-fine p first count source
-ordering-fine p h m (order.Set first) source values e = setting-fine p first source values (set-in-setup p h m first e)
-ordering-fine p h m (order.Activate i) source values e = obeying-fine p (order.Activate i) source values unset-nothing
-ordering-fine p h m (order.Deactivate i) source values e = obeying-fine p (order.Deactivate i) source values unset-nothing
-ordering-fine p h m (order.Goto level rate) source values e = obeying-fine p (order.Goto level rate) source values unset-nothing
-ordering-fine p h m order.Stop source values e = obeying-fine p order.Stop source values unset-nothing
-ordering-fine p h m (order.Blink value) source values e = obeying-fine p (order.Blink value) source values unset-nothing
-ordering-fine p h m order.Report source values e = obeying-fine p order.Report source values unset-nothing
-ordering-fine p h m (order.Store i) source values e = obeying-fine p (order.Store i) source values (λ first e. let z : _≡_ {A = ℕ} 0 1 = cc in omega arith)
+ordering-fine p h m (order.Guess guess) source values e = opening-fine p guess
+ordering-fine p h m (order.Read first count) source values e = getting-fine p first count source
+ordering-fine p h m (order.Work w) source values e = working-fine p h m w source values e
 
 reading-fine : (p : Plain) (f : Frame) (m : List ℕ) → Fine p (jobOfFrame f m p)
 unfolding jobOfFrame

@@ -36,17 +36,19 @@ use Rattle.registers.specs.Registers.{apart, found, seek, valid}
 use Rattle.registers.specs.Write.{applied, oneMore, stored}
 use Rattle.registers.specs.declared.Found.the-variants.{At}
 use Rattle.registers.specs.declared.Seen.the-variants as seen
-use Rattle.judge.specs.Judge.{judged}
+use Rattle.judge.specs.Judge.{driving, judged}
 use Rattle.judge.specs.declared.Order.the-variants as order
+use Rattle.judge.specs.declared.Work.the-variants as work
+use Rattle.judge.specs.declared.Drive.the-variants as drive
 use Rattle.judge.proofs.Laws as judge
-use Rattle.acts.specs.Core.{entering, opened, setting, startLevel, started, unwritten, signalled}
+use Rattle.acts.specs.Core.{entering, opened, setBy, setting, startLevel, started, unwritten, signalled}
 use Rattle.acts.specs.Gestures.{acted, actedIn, byAction, actedInNormal, tapsInNormal}
-use Rattle.acts.specs.Orders.{performed}
+use Rattle.acts.specs.Orders.{driven, performed}
 use Rattle.post.specs.Post.{enveloped, header, replied, replyMessage}
 use Rattle.post.specs.declared.Reply.the-variants as reply
 use Rattle.post.proofs.Sending.{case-a, case-j}
 use Rattle.switch.specs.Switch.{Event, Plain, Shown, answerOf, answerWith, event, freshPaddles, press, receive}
-use Rattle.switch.specs.Events.{SwitchJob, outcomeOf, finished, job, kindOf, plainAfter, jobOfAct, jobOfGuess, jobOfOrder, paddleAt, paddleOf, pressedAt, jobOfPress, refused, replyTo, woken}
+use Rattle.switch.specs.Events.{SwitchJob, outcomeOf, finished, job, kindOf, plainAfter, jobOfWork, jobOfGuess, jobOfOrder, paddleAt, paddleOf, pressedAt, jobOfPress, refused, replyTo, woken}
 use Rattle.switch.specs.Respond.{respond, startAnswer, startedFrom, wallSwitch}
 use Rattle.promises.specs.Cases.{Bench, Cases, Dark, benchImage, darkImage, packetA, packetB, packetC, packetE, packetFull, packetHalf, replyA, zeros}
 use Rattle.promises.specs.Numbers.{Asks, not-read, numberAt, refused as row-refused, wrong-password}
@@ -73,56 +75,50 @@ reads = record { a = refl; a-message = refl; b = refl; b-message = refl; c = ref
 
 module _ (s : Switch Plain) (room : ℕ) (enough : 48 ≤ room) (bench : Bench s) where
   -- How they are judged.
-  judged-a : judged (s .plain .registers) (s .plain .core .mode) (header false 1 5 9) (messageOf packetA) ≡ order.Report
+  judged-a : judged (s .plain .registers) (s .plain .core .mode) (header false 1 5 9) (messageOf packetA) ≡ (order.Work work.Report)
   judged-a =
-      judge.only _ _ (header false 1 5 9) order.Report (messageOf packetA)
+      judge.only _ _ (header false 1 5 9) (order.Work work.Report) (messageOf packetA)
       (record {
         reached = (λ u. u .1 (sym (bench .network)), λ u. u .1 (sym (bench .unit)));
-        comes = ((refl, (sym (bench .unit), λ z. omega arith)), λ z. omega arith);
-        when = tt;
-        says = reads .a-message;
+        asked = judge.row ((refl, (sym (bench .unit), λ z. omega arith)), λ z. omega arith) tt (reads .a-message);
       })
 
   judged-b : (i : ℕ) → found (s .plain .registers) 3 ≡ At i
-      → judged (s .plain .registers) (s .plain .core .mode) (header true 1 3 9) (messageOf packetB) ≡ order.Goto 50 0
+      → judged (s .plain .registers) (s .plain .core .mode) (header true 1 3 9) (messageOf packetB) ≡ driving (drive.Goto 50 0)
   judged-b i there =
-      judge.only _ _ (header true 1 3 9) (order.Goto 50 0) (messageOf packetB)
+      judge.only _ _ (header true 1 3 9) (driving (drive.Goto 50 0)) (messageOf packetB)
       (record {
         reached = (λ u. u .1 (sym (bench .network)), λ u. let z : _≡_ {A = ℕ} 0 1 = cc in omega arith);
-        comes = tt;
-        when = tt;
-        says = inl (inl (reads .b-message));
+        asked = judge.row tt tt (inl (inl (reads .b-message)));
       })
 
-  judged-c : judged (s .plain .registers) (s .plain .core .mode) (header false 1 5 9) (messageOf packetC) ≡ order.Open (password 0x12 0x34)
+  judged-c : judged (s .plain .registers) (s .plain .core .mode) (header false 1 5 9) (messageOf packetC) ≡ order.Guess (password 0x12 0x34)
   judged-c =
-      judge.only _ _ (header false 1 5 9) (order.Open (password 0x12 0x34)) (messageOf packetC)
+      judge.only _ _ (header false 1 5 9) (order.Guess (password 0x12 0x34)) (messageOf packetC)
       (record {
         reached = (λ u. u .1 (sym (bench .network)), λ u. u .1 (sym (bench .unit)));
-        comes = (refl, (sym (bench .unit), λ z. omega arith));
-        when = bench .mode;
-        says = reads .c-message;
+        asked = judge.row (refl, (sym (bench .unit), λ z. omega arith)) (bench .mode) (reads .c-message);
       })
 
-  job-a : job (s .plain) (event room (receive packetA)) ≡ jobOfAct order.Report 9 (drop 2 (messageOf packetA)) (s .plain)
+  job-a : job (s .plain) (event room (receive packetA)) ≡ jobOfWork work.Report 9 (drop 2 (messageOf packetA)) (s .plain)
   unfolding jobOfOrder
-  job-a = receive-job (s .plain) room packetA (header false 1 5 9) order.Report enough (reads .a) judged-a
+  job-a = receive-job (s .plain) room packetA (header false 1 5 9) (order.Work work.Report) enough (reads .a) judged-a
 
   a-number : numberAt s (event room (receive packetA)) ≡ 0
-  unfolding Product.responseOf jobOfAct outcomeOf answerOf answerWith settled
+  unfolding Product.responseOf jobOfWork outcomeOf answerOf answerWith settled
   a-number = ap (λ (j : SwitchJob). settled (s .password) j .shown .answer .number) job-a
 
   a-sent : respond s (event room (receive packetA)) .shown .sent ≡ replyA ∷ []
-  unfolding Product.responseOf jobOfAct outcomeOf plainAfter signalled performed replyTo unwritten applied settled percentOf
+  unfolding Product.responseOf jobOfWork outcomeOf plainAfter signalled performed replyTo unwritten applied settled percentOf
   a-sent = ap (λ (j : SwitchJob). settled (s .password) j .shown .sent) job-a ∙ rw (bench .level) (case-a (s .plain .registers) seen.Hidden (bench .network) (bench .unit))
 
   job-b : (i : ℕ) → found (s .plain .registers) 3 ≡ At i
-      → job (s .plain) (event room (receive packetB)) ≡ jobOfAct (order.Goto 50 0) 9 (drop 2 (messageOf packetB)) (s .plain)
+      → job (s .plain) (event room (receive packetB)) ≡ jobOfWork (work.Drive (drive.Goto 50 0)) 9 (drop 2 (messageOf packetB)) (s .plain)
   unfolding jobOfOrder
-  job-b i there = receive-job (s .plain) room packetB (header true 1 3 9) (order.Goto 50 0) enough (reads .b) (judged-b i there)
+  job-b i there = receive-job (s .plain) room packetB (header true 1 3 9) (driving (drive.Goto 50 0)) enough (reads .b) (judged-b i there)
 
   b-number : (i : ℕ) → found (s .plain .registers) 3 ≡ At i → numberAt s (event room (receive packetB)) ≡ 0
-  unfolding Product.responseOf jobOfAct outcomeOf answerOf answerWith settled
+  unfolding Product.responseOf jobOfWork outcomeOf answerOf answerWith settled
   b-number i there = ap (λ (j : SwitchJob). settled (s .password) j .shown .answer .number) (job-b i there)
 
   b-set : setTo (s .plain .core .dimmer) 50 0 (optionsOf (dimmingIn (s .plain .registers))) .level ≡ step 100
@@ -134,16 +130,16 @@ module _ (s : Switch Plain) (room : ℕ) (enough : 48 ≤ room) (bench : Bench s
   b-rest = rw (bench .capable)
 
   b-level : (i : ℕ) → found (s .plain .registers) 3 ≡ At i → respond s (event room (receive packetB)) .shown .answer .level ≡ step 100
-  unfolding Product.responseOf jobOfAct outcomeOf plainAfter signalled performed setting unwritten answerOf answerWith settled
+  unfolding Product.responseOf jobOfWork outcomeOf plainAfter signalled performed driven setBy unwritten answerOf answerWith settled
   b-level i there = ap (λ (j : SwitchJob). settled (s .password) j .shown .answer .level) (job-b i there) ∙ b-set
 
   b-motion : (i : ℕ) → found (s .plain .registers) 3 ≡ At i → respond s (event room (receive packetB)) .next .plain .core .dimmer .motion ≡ Idle
-  unfolding Product.responseOf jobOfAct outcomeOf plainAfter signalled performed setting unwritten settled
+  unfolding Product.responseOf jobOfWork outcomeOf plainAfter signalled performed driven setBy unwritten settled
   b-motion i there = ap (λ (j : SwitchJob). settled (s .password) j .next .plain .core .dimmer .motion) (job-b i there) ∙ b-rest
 
   job-c : job (s .plain) (event room (receive packetC)) ≡ jobOfGuess (password 0x12 0x34) (s .plain)
   unfolding jobOfOrder
-  job-c = receive-job (s .plain) room packetC (header false 1 5 9) (order.Open (password 0x12 0x34)) enough (reads .c) judged-c
+  job-c = receive-job (s .plain) room packetC (header false 1 5 9) (order.Guess (password 0x12 0x34)) enough (reads .c) judged-c
 
   c-answer : s .password ≡ password 0x12 0x34
       → respond s (event room (receive packetC)) ≡ answered (outcomeOf (opened (s .plain .core)) [] 0 reply.Silence (s .plain) seen.Hidden) (s .password)
@@ -167,7 +163,7 @@ module _ (s : Switch Plain) (room : ℕ) (enough : 48 ≤ room) (bench : Bench s
       (wrong-password (password 0x12 0x34) (record {
         header = header false 1 5 9;
         sound = packet.sound packetC (header false 1 5 9) (reads .c);
-        accepted = judge.asks (order.Open (password 0x12 0x34)) _ _ (header false 1 5 9) (messageOf packetC) judged-c;
+        accepted = judge.asks (order.Guess (password 0x12 0x34)) _ _ (header false 1 5 9) (messageOf packetC) judged-c;
       }) other))
 
 e-number : (s : Switch Plain) (room : ℕ) → 48 ≤ room → numberAt s (event room (receive packetE)) ≡ 7
@@ -199,34 +195,34 @@ begins-dark : (last target : Step) (each : ℕ) → 0 < each → 0 < target .0 �
 unfolding headingTo
 begins-dark last target each some lit = rw (ne-eqb each 0 (omega arith), ne-eqb 0 (target .0) (omega arith))
 
-module _ (s : Switch Plain) (room : ℕ) (bytes : List ℕ) (enough : 48 ≤ room) (dark : Dark s) (level rate : ℕ) (accepts : Asks s bytes (order.Goto level rate)) where
+module _ (s : Switch Plain) (room : ℕ) (bytes : List ℕ) (enough : 48 ≤ room) (dark : Dark s) (level rate : ℕ) (accepts : Asks s bytes (driving (drive.Goto level rate))) where
   abbrev goto : Event
   goto = event room (receive bytes)
 
   abbrev set-dimmer : Dimmer
   set-dimmer = setTo (dimmerIn s) level rate (optionsOf (dimmingIn (s .plain .registers)))
 
-  goto-job : job (s .plain) goto ≡ jobOfAct (order.Goto level rate) (accepts .header .source) (drop 2 (messageOf bytes)) (s .plain)
+  goto-job : job (s .plain) goto ≡ jobOfWork (work.Drive (drive.Goto level rate)) (accepts .header .source) (drop 2 (messageOf bytes)) (s .plain)
   unfolding jobOfOrder
   goto-job =
-      receive-job (s .plain) room bytes (accepts .header) (order.Goto level rate) enough (packet.only (frame.Read (accepts .header)) bytes (accepts .sound))
-      (judge.only _ _ (accepts .header) (order.Goto level rate) (messageOf bytes) (accepts .accepted))
+      receive-job (s .plain) room bytes (accepts .header) (driving (drive.Goto level rate)) enough (packet.only (frame.Read (accepts .header)) bytes (accepts .sound))
+      (judge.only _ _ (accepts .header) (driving (drive.Goto level rate)) (messageOf bytes) (accepts .accepted))
 
   goto-dimmer : dimmerIn (respond s goto .next) ≡ set-dimmer
-  unfolding Product.responseOf jobOfAct outcomeOf plainAfter signalled performed setting unwritten settled
+  unfolding Product.responseOf jobOfWork outcomeOf plainAfter signalled performed driven setBy unwritten settled
   goto-dimmer = ap (λ (j : SwitchJob). settled (s .password) j .next .plain .core .dimmer) goto-job
 
   goto-mode : modeIn (respond s goto .next) ≡ modeIn s
-  unfolding Product.responseOf jobOfAct outcomeOf plainAfter signalled performed setting unwritten settled
+  unfolding Product.responseOf jobOfWork outcomeOf plainAfter signalled performed driven setBy unwritten settled
   goto-mode = ap (λ (j : SwitchJob). settled (s .password) j .next .plain .core .mode) goto-job
 
   goto-rests : AtRest (respond s goto .next)
-  unfolding Product.responseOf jobOfAct outcomeOf plainAfter signalled performed setting unwritten settled signalSet
+  unfolding Product.responseOf jobOfWork outcomeOf plainAfter signalled performed driven setBy unwritten settled signalSet
   goto-rests = rest-as s (respond s goto .next) (ap (λ (j : SwitchJob). settled (s .password) j .next .plain .paddles) goto-job)
       (ap (λ (j : SwitchJob). settled (s .password) j .next .plain .core .lamp .flash) goto-job ∙ dark .rests .steady) (dark .rests)
 
   goto-shows : Shows (modeIn s) (set-dimmer .level) [] (respond s goto .shown)
-  unfolding Product.responseOf jobOfAct outcomeOf plainAfter signalled performed setting unwritten settled replyTo replied replyMessage enveloped answerOf answerWith signalSet
+  unfolding Product.responseOf jobOfWork outcomeOf plainAfter signalled performed driven setBy unwritten settled replyTo replied replyMessage enveloped answerOf answerWith signalSet
   goto-shows = subst (λ (j : SwitchJob). Shows (modeIn s) (set-dimmer .level) [] (settled (s .password) j .shown)) (sym goto-job) record { number = refl; mode = refl; level = refl; output = output-plain _ (set-dimmer .level) (dark .rests .steady); counted = refl; sent = refl }
 
   goto-ticks : (n : ℕ) (to : Step) → tickedBy n set-dimmer .level ≡ to → 1 ≤ n → Shows (modeIn s) to [] (nthTick (respond s goto .next) n)
@@ -320,7 +316,7 @@ unfolding startedFrom woken apart started startLevel benchImage zeros applied co
 bench-there = record { network = refl; unit = refl; level = refl; mode = refl; capable = refl }
 
 bench-darkens : dimmerBy (Taps 1) 0 (startedFrom benchImage) .level ≡ off
-unfolding startedFrom woken apart started startLevel benchImage zeros applied counterPlace oneMore stored optionsOf stepOf freshDimmer acted actedIn actedInNormal tapsInNormal unwritten byAction setting singleIn setTo allowed wanted rateOf headingTo ticksPerStep paddleOf
+unfolding startedFrom woken apart started startLevel benchImage zeros applied counterPlace oneMore stored optionsOf stepOf freshDimmer acted actedIn actedInNormal tapsInNormal unwritten byAction setting setBy singleIn setTo allowed wanted rateOf headingTo ticksPerStep paddleOf
 bench-darkens = refl
 
 bench-linked : found (startedFrom benchImage .plain .registers) 3 ≡ At 0
@@ -339,23 +335,21 @@ dark-linked : found (startedFrom darkImage .plain .registers) 3 ≡ At 0
 unfolding startedFrom woken apart darkImage benchImage zeros applied counterPlace oneMore stored found seek valid
 dark-linked = refl
 
-accepts : (bytes : List ℕ) (level rate : ℕ) → readOf bytes ≡ frame.Read (header true 1 3 9) → messageOf bytes ≡ 0x22 ∷ level ∷ rate ∷ [] → Asks (startedFrom darkImage) bytes (order.Goto level rate)
+accepts : (bytes : List ℕ) (level rate : ℕ) → readOf bytes ≡ frame.Read (header true 1 3 9) → messageOf bytes ≡ 0x22 ∷ level ∷ rate ∷ [] → Asks (startedFrom darkImage) bytes (driving (drive.Goto level rate))
 accepts bytes level rate read message = record {
   header = header true 1 3 9;
   sound = packet.sound bytes (header true 1 3 9) read;
   accepted = record {
     reached = (λ u. u .1 (sym dark-network), λ u. let there = dark-linked in let z : _≡_ {A = ℕ} 0 1 = cc in omega arith);
-    comes = tt;
-    when = tt;
-    says = inl (inl message);
+    asked = judge.row tt tt (inl (inl message));
   };
 }
 
-accepts-half : Asks (startedFrom darkImage) packetHalf (order.Goto 50 4)
+accepts-half : Asks (startedFrom darkImage) packetHalf (driving (drive.Goto 50 4))
 unfolding readOf messageOf headerIn firstByte secondByte wholeIn reservedIn total
 accepts-half = accepts packetHalf 50 4 refl refl
 
-accepts-full : Asks (startedFrom darkImage) packetFull (order.Goto 100 15)
+accepts-full : Asks (startedFrom darkImage) packetFull (driving (drive.Goto 100 15))
 unfolding readOf messageOf headerIn firstByte secondByte wholeIn reservedIn total
 accepts-full = accepts packetFull 100 15 refl refl
 

@@ -42,7 +42,7 @@ use Rattle.registers.specs.Write.{applied, changeAt, changeOf}
 use Rattle.registers.specs.declared.Seen.the-variants as seen
 use Rattle.switch.specs.Switch.{Deed, Event, Plain, Shown, answerOf, answerWith, event, plain, press, receive, release, restart, shown, tick}
 use Rattle.switch.specs.Paddles.{after, turned}
-use Rattle.switch.specs.Events.{SwitchJob, outcomeOf, jobOfDeed, finished, garbled, gestureAt, jobOfGet, job, kindOf, known, jobOfAct, jobOfGuess, jobOfOrder, paddleAt, paddleOf, pressedAt, jobOfPress, jobOfFrame, jobOfBytes, refused, releasedAt, jobOfRelease, jobOfRestart, signalledBy, jobOfTick}
+use Rattle.switch.specs.Events.{SwitchJob, outcomeOf, jobOfDeed, finished, garbled, gestureAt, jobOfRead, job, kindOf, known, jobOfWork, jobOfGuess, jobOfOrder, paddleAt, paddleOf, pressedAt, jobOfPress, jobOfFrame, jobOfBytes, refused, releasedAt, jobOfRelease, jobOfRestart, signalledBy, jobOfTick}
 use Rattle.switch.specs.Respond.{noAnswer, startAnswer, startedFrom, wallSwitch}
 use Rattle.promises.proofs.Jobs.{press-job, release-job}
 use Rattle.promises.specs.Numbers.{AlreadySo, DeedRefused, downAt, Exactly, FourteenExactly, Idle, Numbers, OnlyThese, PacketRefused, RefusalsChangeNothing, Row, StartExactly, Or0Or2, WrongGuess, blackened, done, isGarbled, no-room, not-accepted, not-read, numberAt, numberOfStart, refused as row-refused, wrong-password}
@@ -80,7 +80,7 @@ module _ (s : Switch Plain) where
   packet-only bytes n (not-read _ ne row) = unread-number bytes n ne row
   packet-only bytes n (not-accepted h k so r) = rw (packet.only (frame.Read h) bytes so, judge.only (s .plain .registers) (s .plain .core .mode) h (order.Refused k) (messageOf bytes) r)
   packet-only bytes n (wrong-password guess a ne) =
-      rw (packet.only (frame.Read (a .header)) bytes (a .sound), judge.only (s .plain .registers) (s .plain .core .mode) (a .header) (order.Open guess) (messageOf bytes) (a .accepted))
+      rw (packet.only (frame.Read (a .header)) bytes (a .sound), judge.only (s .plain .registers) (s .plain .core .mode) (a .header) (order.Guess guess) (messageOf bytes) (a .accepted))
       (wrong-guess (s .password) guess (s .plain) (mismatch (s .password) guess ne))
 
   read-range : (bytes : List ℕ) (n : ℕ) → (n ≡ 0 → ⊥) → ReadRow bytes n → (4 ≤ n) × (n ≤ 8)
@@ -105,22 +105,14 @@ module _ (s : Switch Plain) where
   module _ (bytes : List ℕ) where
     order-found : (h : Header) → Sound bytes h → (o : Order) → judged (s .plain .registers) (s .plain .core .mode) h (messageOf bytes) ≡ o
         → (source : ℕ) (values : List ℕ) → Found (receive bytes) (numberIn (s .password) (jobOfOrder o source values (s .plain)))
-    unfolding Found jobOfOrder refused jobOfGuess jobOfAct jobOfGet outcomeOf answerOf answerWith settled
+    unfolding Found jobOfOrder refused jobOfGuess jobOfWork jobOfRead outcomeOf answerOf answerWith settled
     order-found h so (order.Refused n) e source values = inr (not-accepted h n so (judge.asks (order.Refused n) _ _ h _ e))
-    order-found h so (order.Open guess) e source values =
+    order-found h so (order.Guess guess) e source values =
         cases (λ (o : Outcome Plain Shown). Found (receive bytes) (o .shown .answer .number)) (matches (s .password) guess) (λ m. inl refl)
-        (λ m. inr (wrong-password guess (record { header = h; sound = so; accepted = judge.asks (order.Open guess) _ _ h _ e }) (λ same. true≢false (sym (equal-matches (s .password) guess same) ∙ m))))
-    order-found h so order.Close e source values = inl refl
-    order-found h so (order.Get first count) e source values =
+        (λ m. inr (wrong-password guess (record { header = h; sound = so; accepted = judge.asks (order.Guess guess) _ _ h _ e }) (λ same. true≢false (sym (equal-matches (s .password) guess same) ∙ m))))
+    order-found h so (order.Read first count) e source values =
         both (λ (j : SwitchJob). Found (receive bytes) (numberIn (s .password) j)) (inSetup (s .plain .core .mode)) (inl refl) (inl refl)
-    order-found h so (order.Set first) e source values = inl refl
-    order-found h so (order.Activate i) e source values = inl refl
-    order-found h so (order.Deactivate i) e source values = inl refl
-    order-found h so (order.Goto level rate) e source values = inl refl
-    order-found h so order.Stop e source values = inl refl
-    order-found h so (order.Blink value) e source values = inl refl
-    order-found h so order.Report e source values = inl refl
-    order-found h so (order.Store i) e source values = inl refl
+    order-found h so (order.Work w) e source values = inl refl
 
     frame-found : (f : Frame) → readOf bytes ≡ f → Found (receive bytes) (numberIn (s .password) (jobOfFrame f (messageOf bytes) (s .plain)))
     unfolding Found jobOfFrame garbled answerOf answerWith settled
@@ -277,27 +269,19 @@ module _ (s : Switch Plain) where
       cases (λ (o : Outcome Plain Shown). (o .shown .answer .number ≡ 0 → ⊥) → Quiet s (answered o (s .password))) (matches (s .password) guess)
       (λ m ne. absurd (ne refl)) (λ m. refused-quiet 14 refl)
 
-  get-quiet : (first count source : ℕ) → Quietly s (jobOfGet first count source (s .plain))
-  unfolding jobOfGet settled outcomeOf answerOf answerWith
+  get-quiet : (first count source : ℕ) → Quietly s (jobOfRead first count source (s .plain))
+  unfolding jobOfRead settled outcomeOf answerOf answerWith
   get-quiet first count source = both (Quietly s) (inSetup (s .plain .core .mode)) (λ ne. absurd (ne refl)) (λ ne. absurd (ne refl))
 
   order-quiet : (h : Header) (m : List ℕ) (o : Order) → judged (s .plain .registers) (s .plain .core .mode) h m ≡ o
       → (source : ℕ) (values : List ℕ) → Quietly s (jobOfOrder o source values (s .plain))
-  unfolding jobOfOrder jobOfAct settled outcomeOf answerOf answerWith
+  unfolding jobOfOrder jobOfWork settled outcomeOf answerOf answerWith
   order-quiet h m (order.Refused n) e source values =
       let i = judge.only-these n _ _ h m (judge.asks (order.Refused n) _ _ h m e) in
       refused-quiet n (rw (le-leb 4 n (omega arith), lt-leb n 8 (omega arith)))
-  order-quiet h m (order.Open guess) e source values = open-quiet guess
-  order-quiet h m order.Close e source values = λ ne. absurd (ne refl)
-  order-quiet h m (order.Get first count) e source values = get-quiet first count source
-  order-quiet h m (order.Set first) e source values = λ ne. absurd (ne refl)
-  order-quiet h m (order.Activate i) e source values = λ ne. absurd (ne refl)
-  order-quiet h m (order.Deactivate i) e source values = λ ne. absurd (ne refl)
-  order-quiet h m (order.Goto level rate) e source values = λ ne. absurd (ne refl)
-  order-quiet h m order.Stop e source values = λ ne. absurd (ne refl)
-  order-quiet h m (order.Blink value) e source values = λ ne. absurd (ne refl)
-  order-quiet h m order.Report e source values = λ ne. absurd (ne refl)
-  order-quiet h m (order.Store i) e source values = λ ne. absurd (ne refl)
+  order-quiet h m (order.Guess guess) e source values = open-quiet guess
+  order-quiet h m (order.Read first count) e source values = get-quiet first count source
+  order-quiet h m (order.Work w) e source values = λ ne. absurd (ne refl)
 
   frame-quiet : (f : Frame) (m : List ℕ) → Quietly s (jobOfFrame f m (s .plain))
   unfolding jobOfFrame

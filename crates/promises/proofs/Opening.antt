@@ -30,15 +30,16 @@ use Rattle.judge.specs.Judge.{judged}
 use Rattle.judge.specs.Promises.{NotFor}
 use Rattle.judge.specs.declared.Order.{Order}
 use Rattle.judge.specs.declared.Order.the-variants as order
+use Rattle.judge.specs.declared.Work.{Work}
+use Rattle.judge.specs.declared.Work.the-variants as work
 use Rattle.judge.proofs.Laws as judge
-use Rattle.acts.specs.Core.{entering, opened, started, signalled}
-use Rattle.acts.specs.Orders.{performed}
-use Rattle.acts.proofs.Laws.{order-leads}
-use Rattle.acts.specs.Code.{orderLeads}
+use Rattle.acts.specs.Core.{entering, opened, started, signalled, unwritten}
+use Rattle.acts.proofs.Laws.{work-leads}
+use Rattle.acts.specs.Code.{workLeads}
 use Rattle.post.specs.declared.Reply.the-variants as reply
 use Rattle.switch.specs.Switch.{Deed, Plain, Shown, answerOf, answerWith, event, press, receive, release, restart, tick}
 use Rattle.switch.specs.Paddles.{Moment, turned}
-use Rattle.switch.specs.Events.{SwitchJob, outcomeOf, begun, jobOfDeed, finished, garbled, gestureAt, jobOfGet, job, known, plainAfter, jobOfAct, jobOfGuess, jobOfOrder, paddleOf, jobOfPress, jobOfFrame, jobOfBytes, refused, jobOfRelease, jobOfRestart, jobOfTick, woken}
+use Rattle.switch.specs.Events.{SwitchJob, outcomeOf, begun, jobOfDeed, finished, garbled, gestureAt, jobOfRead, job, known, plainAfter, jobOfWork, jobOfGuess, jobOfOrder, paddleOf, jobOfPress, jobOfFrame, jobOfBytes, refused, jobOfRelease, jobOfRestart, jobOfTick, woken}
 use Rattle.switch.specs.Respond.{respond, wallSwitch}
 use Rattle.promises.specs.Demand3.{Outside}
 use Rattle.promises.specs.Numbers.{numberAt}
@@ -78,44 +79,42 @@ module _ (s : Switch Plain) (out : Outside s) where
       inr (record { ticked = refl; paddle = f .paddle; closes = record { there = f .there; taps = f .five; finds = f .finds } })
 
   module _ (bytes : List ℕ) where
-    obey-leads : (o : Order) (source : ℕ) (values : List ℕ) → Leaves (receive bytes) (orderLeads o (s .plain .core .mode))
-        → Leads (receive bytes) (jobOfAct o source values (s .plain))
-    unfolding jobOfAct outcomeOf plainAfter signalled settled
-    obey-leads o source values l to = l (sym (ap inSetup (order-leads (s .plain .registers) o (s .plain .core))) ∙ to)
+    work-stays : (w : Work) → Leaves (receive bytes) (workLeads w (s .plain .core .mode))
+    unfolding workLeads inSetup
+    work-stays work.Report = same-mode (receive bytes) _ refl
+    work-stays work.Close = λ to. absurd (false≢true to)
+    work-stays (work.Set first) = same-mode (receive bytes) _ refl
+    work-stays (work.Store i) = same-mode (receive bytes) _ refl
+    work-stays (work.Drive d) = same-mode (receive bytes) _ refl
+
+    obey-leads : (w : Work) (source : ℕ) (values : List ℕ) → Leads (receive bytes) (jobOfWork w source values (s .plain))
+    unfolding jobOfWork outcomeOf plainAfter signalled settled
+    obey-leads w source values to = work-stays w (sym (ap inSetup (work-leads (s .plain .registers) w (s .plain .core))) ∙ to)
 
     open-leads : (h : Header) (guess : Password) → Sound bytes h
-        → judged (s .plain .registers) (s .plain .core .mode) h (messageOf bytes) ≡ order.Open guess → Leads (receive bytes) (jobOfGuess guess (s .plain))
+        → judged (s .plain .registers) (s .plain .core .mode) h (messageOf bytes) ≡ order.Guess guess → Leads (receive bytes) (jobOfGuess guess (s .plain))
     unfolding jobOfGuess refused settled
     open-leads h guess so e =
         cases (λ (o : Outcome Plain Shown). Leaves (receive bytes) (o .next .core .mode)) (matches (s .password) guess)
         (λ m to. inl (record {
-          start = record { bytes = bytes; guess = guess; received = refl; asks = record { header = h; sound = so; accepted = judge.asks (order.Open guess) _ _ h _ e } };
+          start = record { bytes = bytes; guess = guess; received = refl; asks = record { header = h; sound = so; accepted = judge.asks (order.Guess guess) _ _ h _ e } };
           right = matches-equal (s .password) guess m;
         }))
         (λ m. same-mode (receive bytes) _ refl)
 
-    get-leads : (first count source : ℕ) → Leads (receive bytes) (jobOfGet first count source (s .plain))
-    unfolding jobOfGet outcomeOf plainAfter signalled settled orderLeads
+    get-leads : (first count source : ℕ) → Leads (receive bytes) (jobOfRead first count source (s .plain))
+    unfolding jobOfRead outcomeOf plainAfter signalled settled unwritten
     get-leads first count source =
-        let stays : Leaves (receive bytes) (performed (s .plain .registers) (order.Get first count) (s .plain .core) .core .mode) =
-        same-mode (receive bytes) _ (order-leads (s .plain .registers) (order.Get first count) (s .plain .core)) in
+        let stays : Leaves (receive bytes) (s .plain .core .mode) = same-mode (receive bytes) _ refl in
         both (Leads (receive bytes)) (inSetup (s .plain .core .mode)) stays stays
 
     order-opens : (h : Header) (o : Order) → Sound bytes h → judged (s .plain .registers) (s .plain .core .mode) h (messageOf bytes) ≡ o
         → (source : ℕ) (values : List ℕ) → Leads (receive bytes) (jobOfOrder o source values (s .plain))
-    unfolding jobOfOrder refused settled orderLeads inSetup
+    unfolding jobOfOrder refused settled
     order-opens h (order.Refused n) so e source values = same-mode (receive bytes) _ refl
-    order-opens h (order.Open guess) so e source values = open-leads h guess so e
-    order-opens h order.Close so e source values = obey-leads order.Close source values (λ to. absurd (false≢true to))
-    order-opens h (order.Get first count) so e source values = get-leads first count source
-    order-opens h (order.Set first) so e source values = obey-leads (order.Set first) source values (same-mode (receive bytes) _ refl)
-    order-opens h (order.Activate i) so e source values = obey-leads (order.Activate i) source values (same-mode (receive bytes) _ refl)
-    order-opens h (order.Deactivate i) so e source values = obey-leads (order.Deactivate i) source values (same-mode (receive bytes) _ refl)
-    order-opens h (order.Goto level rate) so e source values = obey-leads (order.Goto level rate) source values (same-mode (receive bytes) _ refl)
-    order-opens h order.Stop so e source values = obey-leads order.Stop source values (same-mode (receive bytes) _ refl)
-    order-opens h (order.Blink value) so e source values = obey-leads (order.Blink value) source values (same-mode (receive bytes) _ refl)
-    order-opens h order.Report so e source values = obey-leads order.Report source values (same-mode (receive bytes) _ refl)
-    order-opens h (order.Store i) so e source values = obey-leads (order.Store i) source values (same-mode (receive bytes) _ refl)
+    order-opens h (order.Guess guess) so e source values = open-leads h guess so e
+    order-opens h (order.Read first count) so e source values = get-leads first count source
+    order-opens h (order.Work w) so e source values = obey-leads w source values
 
     frame-leads : (f : Frame) → readOf bytes ≡ f → Leads (receive bytes) (jobOfFrame f (messageOf bytes) (s .plain))
     unfolding jobOfFrame garbled signalled settled
@@ -149,8 +148,8 @@ module _ (s : Switch Plain) (room : ℕ) (d : Deed) (enough : 48 ≤ room) (righ
   right-job =
       let g = right .start in
       ap (λ (d : Deed). job (s .plain) (event room d)) (g .received)
-      ∙ receive-job (s .plain) room (g .bytes) (g .asks .header) (order.Open (g .guess)) enough (packet.only (frame.Read (g .asks .header)) (g .bytes) (g .asks .sound))
-      (judge.only (s .plain .registers) (s .plain .core .mode) (g .asks .header) (order.Open (g .guess)) (messageOf (g .bytes)) (g .asks .accepted))
+      ∙ receive-job (s .plain) room (g .bytes) (g .asks .header) (order.Guess (g .guess)) enough (packet.only (frame.Read (g .asks .header)) (g .bytes) (g .asks .sound))
+      (judge.only (s .plain .registers) (s .plain .core .mode) (g .asks .header) (order.Guess (g .guess)) (messageOf (g .bytes)) (g .asks .accepted))
 
   right-answer : respond s (event room d) ≡ answered (outcomeOf (opened (s .plain .core)) [] 0 reply.Silence (s .plain) seen.Hidden) (s .password)
   unfolding jobOfGuess
@@ -168,7 +167,7 @@ module _ (s : Switch Plain) (room : ℕ) (d : Deed) (enough : 48 ≤ room) (righ
 
 password-opens : PasswordOpens
 password-opens s e enough right =
-    (right .start .asks .accepted .when, (right-number s (e .room) (e .deed) enough right, right-mode s (e .room) (e .deed) enough right))
+    (right .start .asks .accepted .asked .when, (right-number s (e .room) (e .deed) enough right, right-mode s (e .room) (e .deed) enough right))
 
 -- The packet that a fitter sends is one.
 own-password : (s : Switch Plain) (h : Header) → s .plain .core .mode ≡ Normal
@@ -187,9 +186,7 @@ own-password s h normal ranges direct network unit nonzero =
           sound = packet.sound (packed h m) h (back .0);
           accepted = record {
             reached = (λ u. ⊎-elim (u .0) (u .1) network, λ u. subst (λ (link : Bool). NotFor link (s .plain .registers) (h .destination)) direct u .1 unit);
-            comes = (direct, (unit, nonzero));
-            when = normal;
-            says = back .1;
+            asked = judge.row (direct, (unit, nonzero)) normal (back .1);
           };
         };
       };

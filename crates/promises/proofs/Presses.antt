@@ -40,7 +40,7 @@ use Rattle.model.specs.Model.{actionPlace, transmitPlace}
 use Rattle.registers.specs.Write.{applied}
 use Rattle.registers.specs.declared.write.Write.{Write}
 use Rattle.registers.specs.declared.write.Write.the-variants.{Factory as FactoryValues, Nothing as Unwritten}
-use Rattle.acts.specs.Core.{aged, effect, entering, opened, saved, setting, stopping, unwritten, signalled}
+use Rattle.acts.specs.Core.{aged, effect, entering, opened, saved, setBy, setting, stopping, unwritten, signalled}
 use Rattle.acts.specs.Gestures.{acted, actedIn, byAction, far, holding, actedInFactory, actedInNormal, actedInSetup, leads, tapsInFactory, tapsInNormal, tapsInSetup, writes}
 use Rattle.acts.specs.declared.Core.{Core}
 use Rattle.acts.specs.declared.Effect.{Effect}
@@ -135,7 +135,7 @@ letting-go Factory = record { silent = refl; stays = refl; lamp = λ all i c. re
 -- What a gesture does to the dimmer hangs on the mode, the dimmer and the other registers.
 module _ (all now : List ℕ) (same : Agrees all now) (i : ℕ) (c d : Core) (alike : d .dimmer ≡ c .dimmer) where
   same-setting : (level rate : ℕ) → setting now level rate d .dimmer ≡ setting all level rate c .dimmer
-  unfolding setting
+  unfolding setting setBy
   same-setting level rate = rw (alike, same-options all now same i)
 
   same-holding : holding now i d .dimmer ≡ holding all i c .dimmer

@@ -27,6 +27,7 @@ use Rattle.registers.specs.declared.write.Write.the-variants.{Nothing, Count, S
 use Rattle.judge.specs.Judge.{judged}
 use Rattle.judge.specs.declared.Order.{Order}
 use Rattle.judge.specs.declared.Order.the-variants as order
+use Rattle.judge.specs.declared.Work.the-variants as work
 use Rattle.acts.specs.Gestures.{leads, writes}
 use Rattle.switch.specs.Switch.{Deed, Event, Plain, press, receive, release, restart, tick}
 use Rattle.switch.specs.Respond.{respond}
@@ -62,17 +63,13 @@ bySaving save level = if eqb save 0 then Save (percentOf level) else Nothing
 -- other order writes.
 unfoldable pub byOrder : Switch Plain → Order → List ℕ → List Writing
 byOrder s (order.Refused n) values = []
-byOrder s (order.Open guess) values = if matches (s .password) guess then bare (Count Setups) ∷ [] else []
-byOrder s order.Close values = []
-byOrder s (order.Get first count) values = []
-byOrder s (order.Set first) values = writing (Values first) values ∷ []
-byOrder s (order.Activate i) values = []
-byOrder s (order.Deactivate i) values = []
-byOrder s (order.Goto level rate) values = []
-byOrder s order.Stop values = []
-byOrder s (order.Blink value) values = []
-byOrder s order.Report values = []
-byOrder s (order.Store i) values = bare (Preset i (percentOf (s .plain .core .dimmer .level))) ∷ []
+byOrder s (order.Guess guess) values = if matches (s .password) guess then bare (Count Setups) ∷ [] else []
+byOrder s (order.Read first count) values = []
+byOrder s (order.Work work.Report) values = []
+byOrder s (order.Work work.Close) values = []
+byOrder s (order.Work (work.Set first)) values = writing (Values first) values ∷ []
+byOrder s (order.Work (work.Store i)) values = bare (Preset i (percentOf (s .plain .core .dimmer .level))) ∷ []
+byOrder s (order.Work (work.Drive d)) values = []
 
 -- A packet that is not read writes nothing.
 unfoldable pub byFrame : Switch Plain → Frame → List ℕ → List Writing
@@ -129,8 +126,8 @@ pub data Cause (s : Switch Plain) : Deed → Writing → Type 0 where
   five-taps : (d : Deed) → ByFiveTaps s d → Cause s d (bare (Count Setups))
   ten-taps : (i : ℕ) → Closes s i Setup 10 → Cause s tick (bare Factory)
   right-guess : (d : Deed) → ByPassword s d → Cause s d (bare (Count Setups))
-  stored : (bytes : List ℕ) (i : ℕ) → Asks s bytes (order.Store i) → Cause s (receive bytes) (bare (Preset i (percentOf (s .plain .core .dimmer .level))))
-  set : (bytes : List ℕ) (first : ℕ) → Asks s bytes (order.Set first) → Cause s (receive bytes) (writing (Values first) (drop 2 (messageOf bytes)))
+  stored : (bytes : List ℕ) (i : ℕ) → Asks s bytes (order.Work (work.Store i)) → Cause s (receive bytes) (bare (Preset i (percentOf (s .plain .core .dimmer .level))))
+  set : (bytes : List ℕ) (first : ℕ) → Asks s bytes (order.Work (work.Set first)) → Cause s (receive bytes) (writing (Values first) (drop 2 (messageOf bytes)))
 
 -- Every write of every event is in the table.
 abbrev pub OnlyCauses : Type 0
@@ -142,7 +139,7 @@ pub record StoredAt (s : Switch Plain) (d : Deed) (place now : ℕ) : Type 0 whe
   pub bytes : List ℕ
   pub component : ℕ
   pub packet : d ≡ receive bytes
-  pub asks : Asks s bytes (order.Store component)
+  pub asks : Asks s bytes (order.Work (work.Store component))
   pub at : place ≡ levelPlace component
   pub byte : now ≡ percentOf (s .plain .core .dimmer .level) .0
 
@@ -151,7 +148,7 @@ pub record SetAt (s : Switch Plain) (d : Deed) (place now : ℕ) : Type 0 where
   pub bytes : List ℕ
   pub first : ℕ
   pub packet : d ≡ receive bytes
-  pub asks : Asks s bytes (order.Set first)
+  pub asks : Asks s bytes (order.Work (work.Set first))
   pub mode : s .plain .core .mode ≡ Setup
   pub least : first ≤ place
   pub most : place < first + length (drop 2 (messageOf bytes))

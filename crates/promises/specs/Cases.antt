@@ -15,7 +15,8 @@ use Rattle.paddle.specs.declared.Gesture.the-variants.{Taps}
 use Rattle.registers.specs.Places.{dimmingIn, networkIn, size, unitIn}
 use Rattle.registers.specs.Registers.{found}
 use Rattle.registers.specs.declared.Found.the-variants.{At}
-use Rattle.judge.specs.declared.Order.the-variants as order
+use Rattle.judge.specs.Judge.{driving}
+use Rattle.judge.specs.declared.Drive.the-variants as drive
 use Rattle.post.specs.Promises.{CaseJ}
 use Rattle.switch.specs.Switch.{Plain, event, receive}
 use Rattle.switch.specs.Respond.{respond, startAnswer, startedFrom}
@@ -114,11 +115,11 @@ pub record Cases : Type 0 where
       → IsTaps 2 contact s (pressOf 60 contact ++ (ticksOf 179 ++ pressOf 60 contact))
   -- (h): from 0 to 50 percent at rate 4 a fade takes 600 ticks, 6 for each step; from 0 to 100 at rate 15 it takes 864,000, 4,320 for each step;
   -- by whichever packet the Goto comes. There are such a switch and such packets.
-  pub h-half : (s : Switch Plain) (room : ℕ) (bytes : List ℕ) → 48 ≤ room → Dark s → Asks s bytes (order.Goto 50 4)
+  pub h-half : (s : Switch Plain) (room : ℕ) (bytes : List ℕ) → 48 ≤ room → Dark s → Asks s bytes (driving (drive.Goto 50 4))
       → Fades s (event room (receive bytes)) 6 600 (step 100)
-  pub h-full : (s : Switch Plain) (room : ℕ) (bytes : List ℕ) → 48 ≤ room → Dark s → Asks s bytes (order.Goto 100 15)
+  pub h-full : (s : Switch Plain) (room : ℕ) (bytes : List ℕ) → 48 ≤ room → Dark s → Asks s bytes (driving (drive.Goto 100 15))
       → Fades s (event room (receive bytes)) 4320 864000 full
-  pub h-there : Dark (startedFrom darkImage) × (Asks (startedFrom darkImage) packetHalf (order.Goto 50 4) × Asks (startedFrom darkImage) packetFull (order.Goto 100 15))
+  pub h-there : Dark (startedFrom darkImage) × (Asks (startedFrom darkImage) packetHalf (driving (drive.Goto 50 4)) × Asks (startedFrom darkImage) packetFull (driving (drive.Goto 100 15)))
   -- (i): where the low four bits of register 0x0B are 2, the answer of the start and those of the 479 ticks after it show red, red, green and
   -- red, each for 60 and then black for 60.
   pub i : (image : List ℕ) → length image ≡ size → getD image 0x0B 0 % 16 ≡ 2

@@ -43,7 +43,7 @@ pub record Asks (s : Switch Plain) (bytes : List ℕ) (o : Order) : Type 0 where
 pub data PacketRefused (s : Switch Plain) (bytes : List ℕ) : ℕ → Type 0 where
   not-read : (n : ℕ) → (n ≡ 0 → ⊥) → ReadRow bytes n → PacketRefused s bytes n
   not-accepted : (h : Header) (n : ℕ) → Sound bytes h → Refusal (s .plain .registers) (s .plain .core .mode) h (messageOf bytes) n → PacketRefused s bytes n
-  wrong-password : (guess : Password) → Asks s bytes (order.Open guess) → (s .password ≡ guess → ⊥) → PacketRefused s bytes 14
+  wrong-password : (guess : Password) → Asks s bytes (order.Guess guess) → (s .password ≡ guess → ⊥) → PacketRefused s bytes 14
 
 -- 01, Answer numbers, row 3, and the rows of a packet; ticks and restarts have no row of their own.
 abbrev pub DeedRefused : Switch Plain → Deed → ℕ → Type 0
@@ -68,7 +68,7 @@ pub record StartSetup (s : Switch Plain) (d : Deed) : Type 0 where
   pub bytes : List ℕ
   pub guess : Password
   pub received : d ≡ receive bytes
-  pub asks : Asks s bytes (order.Open guess)
+  pub asks : Asks s bytes (order.Guess guess)
 
 -- A Start Setup whose guess is not the password.
 pub record WrongGuess (s : Switch Plain) (d : Deed) : Type 0 where

@@ -8,6 +8,7 @@ use Rattle.vault.specs.Machine.{Throughout, run}
 use Rattle.vault.specs.Product.{machine}
 use Rattle.registers.specs.Write.{factoryAt}
 use Rattle.judge.specs.declared.Order.the-variants as order
+use Rattle.judge.specs.declared.Work.the-variants as work
 use Rattle.switch.specs.Switch.{Deed, Event, Plain, receive}
 use Rattle.switch.specs.Respond.{respond, wallSwitch}
 use Rattle.promises.specs.Alters.{FactorySet, SetAt, StoredAt, byteAt}
@@ -52,7 +53,7 @@ OverRuns = (s : Switch Plain) (es : List Event) → Sane (s .plain) → Outside 
 
 -- No Store Preset is accepted at an event.
 abbrev pub NoneStored : Switch Plain → Event → Type 0
-NoneStored s e = (bytes : List ℕ) (i : ℕ) → e .deed ≡ receive bytes → Asks s bytes (order.Store i) → ⊥
+NoneStored s e = (bytes : List ℕ) (i : ℕ) → e .deed ≡ receive bytes → Asks s bytes (order.Work (work.Store i)) → ⊥
 
 -- Where none is accepted and no event enters Setup, every preset stays as it was.
 abbrev pub PresetsStay : Type 0

@@ -1,11 +1,11 @@
 -- A received packet, over what its callees promise.
-use mathlib.Core.Path.{_≡_, refl, sym, ap, subst, _∙_}
-use mathlib.Core.Bool.{Bool, true, false, false≢true}
+use mathlib.Core.Path.{_≡_, refl, sym, subst, _∙_}
+use mathlib.Core.Bool.{Bool, true, false, not, false≢true}
 use mathlib.Core.List.{List, [], _∷_}
 use Prim.Native.Nat.{ℕ, _≤_, _<_}
 use native.Mathlib.Omega.{arith}
 use lib.ListN.{length, drop}
-use borrow.Author.Tests.{ne-eqb}
+use borrow.Author.Tests.{ne-eqb, not-true, not-false}
 use types.Run.{OneOf, miss}
 use denote.Enum.Declared.{tagOf}
 use Rattle.words.proofs.Laws.{one-outcome}
@@ -27,8 +27,7 @@ use Rattle.packet.proofs.Frame
 use Rattle.packet.proofs.Laws.{packed-length}
 use Rattle.judge.specs.Judge.{judged}
 use Rattle.judge.specs.declared.Order.{Order}
-use Rattle.judge.specs.declared.Order.the-variants as order
-use Rattle.judge.proofs.Order
+use Rattle.judge.specs.declared.Work.{Work}
 use Rattle.acts.specs.Core.{opened, unwritten, signalled}
 use Rattle.acts.specs.Orders.{performed}
 use Rattle.acts.specs.declared.Core.{Core}
@@ -43,33 +42,15 @@ use Rattle.registers.specs.Write.{applied, changeOf, changeAt}
 use Rattle.registers.specs.declared.Seen.{Seen}
 use Rattle.registers.specs.declared.Seen.the-variants as seen
 use Rattle.switch.specs.Switch.{Plain, plain, event, receive, held, tally, answerWith, answerOf}
-use Rattle.switch.specs.Events.{outcomeOf, jobOfDeed, garbled, jobOfGet, hueOf, job, plainAfter, jobOfAct, jobOfGuess, jobOfOrder, jobOfFrame, jobOfBytes, refused, replyTo}
+use Rattle.switch.specs.Events.{outcomeOf, jobOfDeed, garbled, jobOfRead, hueOf, job, plainAfter, jobOfWork, jobOfGuess, jobOfOrder, jobOfFrame, jobOfBytes, refused, replyTo}
 use Rattle.switch.specs.Respond.{Responds}
-use Rattle.switch.specs.Code.{Answers, Handles, Leads, OneHandled, Orders, effectOf, garbledBy, handled, lived, unmoved, verdictOf, verdictOn, added, seenBy}
+use Rattle.switch.specs.Code.{Answers, Handles, OneHandled, Settles, garbledBy, handled, lived, unmoved, added, seenBy}
 use Rattle.switch.specs.declared.Answer.{Answer}
 use Rattle.switch.specs.declared.Live.{Live}
 use Rattle.switch.specs.declared.Sent.{Sent}
 use Rattle.switch.specs.declared.receive.Handled.{Handled}
-use Rattle.switch.specs.declared.receive.Verdict.{Verdict}
-use Rattle.switch.specs.declared.receive.Verdict.the-variants.{Stop, Go}
 use Rattle.paddle.specs.declared.Paddle.{Paddle}
 use Rattle.switch.proofs.Laws.{enough-room, no-room}
-
--- An order that is none of Get Registers and Report Status has no reply.
-pub silent : (o : Order) → OneOf (0 ∷ 1 ∷ 2 ∷ 4 ∷ 5 ∷ 6 ∷ 7 ∷ 8 ∷ 9 ∷ 11 ∷ []) (tagOf Order.the-type o) → replyTo o ≡ reply.Silence
-unfolding replyTo
-silent (order.Refused n) k = refl
-silent (order.Open guess) k = refl
-silent order.Close k = refl
-silent (order.Get first count) k = absurd (miss (0 ∷ 1 ∷ 2 ∷ 4 ∷ 5 ∷ 6 ∷ 7 ∷ 8 ∷ 9 ∷ 11 ∷ []) 3 tt k)
-silent (order.Set first) k = refl
-silent (order.Activate i) k = refl
-silent (order.Deactivate i) k = refl
-silent (order.Goto level rate) k = refl
-silent order.Stop k = refl
-silent (order.Blink value) k = refl
-silent order.Report k = absurd (miss (0 ∷ 1 ∷ 2 ∷ 4 ∷ 5 ∷ 6 ∷ 7 ∷ 8 ∷ 9 ∷ 11 ∷ []) 10 tt k)
-silent (order.Store i) k = refl
 
 -- One reply at most: its length counted is its tally.
 tallied-one : (h : Header) (m : List ℕ) → added (tally []) (length (front (enveloped h m))) ≡ tally (enveloped h m)
@@ -118,144 +99,62 @@ hidden-outside Normal w h = refl
 hidden-outside Setup w h = absurd (false≢true (sym h))
 hidden-outside Factory w h = refl
 
--- A verdict is one of its two kinds.
-abbrev number-of : Verdict → ℕ
-number-of (Stop n) = n
-number-of Go = 0
-
-abbrev stops : Verdict → Bool
-stops (Stop n) = true
-stops Go = false
-
-go-stops : (n : ℕ) → _≡_ {A = Verdict} Go (Stop n) → ⊥
-go-stops n h = false≢true (ap stops h)
-
--- An order is settled as its job says: refused, or granted.
-module _ (w : Password) (c : Core) (all out : List ℕ) where
-  refused-so : (n : ℕ) → Leads (λ ps. settled w (done (refused n (plain all c ps)) nothing)) out (unmoved n w c all) all out
+-- An order is settled as its job says: refused, or its guess compared, its registers shown, its work done.
+module _ (w : Password) (c : Core) (all out : List ℕ) (h : Handled) where
+  pub refused-so : (n : ℕ) → h ≡ unmoved n w c all → Settles (λ p. done (refused n p) nothing) w c all out h all out
   unfolding settled refused unmoved answerOf changed became placed
-  refused-so n = record { answered = λ ps. refl; next = λ ps. refl; bytes = λ ps. refl }
+  refused-so n e = rw e record { answered = λ ps. refl; next = λ ps. refl; bytes = λ ps. refl }
 
-  module _ (source : ℕ) (values : List ℕ) where
-    wrong-guess : (guess : Password) (n : ℕ) → verdictOn w guess ≡ Stop n → Orders (order.Open guess) source values w c all out (unmoved n w c all) all out
-    unfolding verdictOn jobOfOrder jobOfGuess settled refused unmoved answerOf placed
-    wrong-guess guess n h = by-test (matches w guess) refl
+  pub wrong-guess : (guess : Password) (right : Bool) → right ≡ matches w guess → not right ≡ true → h ≡ unmoved 14 w c all → Settles (jobOfGuess guess) w c all out h all out
+  unfolding jobOfGuess settled refused unmoved answerOf placed
+  wrong-guess guess right r z e =
+      let m : matches w guess ≡ false = sym r ∙ not-true right z in
+      rw e record { answered = λ ps. rw m; next = λ ps. rw m; bytes = λ ps. rw m }
+
+  module _ (e : Effect) (all′ out′ : List ℕ) where
+    pub right-guess :
+        (guess : Password) (right : Bool) → right ≡ matches w guess → not right ≡ false
+        → e ≡ opened c → Answers e [] 0 reply.Silence seen.Hidden w all out h all′ out′
+        → Settles (jobOfGuess guess) w c all out h all′ out′
+    unfolding jobOfGuess settled outcomeOf plainAfter opened changeOf changeAt changed became
+    right-guess guess right r z d a =
+        let m : matches w guess ≡ true = sym r ∙ not-false right z in
+        let b = subst (λ (x : Effect). Answers x [] 0 reply.Silence seen.Hidden w all out h all′ out′) d a in
+        record { answered = λ ps. rw m (b .answered ps); next = λ ps. rw m (b .next ps); bytes = λ ps. rw m (b .bytes ps) }
+
+    pub shown-so :
+        (first count source : ℕ) (s : Seen) → s ≡ seenBy (c .mode) w
+        → e ≡ unwritten c → Answers e [] source (reply.Registers first count) s w all out h all′ out′
+        → Settles (jobOfRead first count source) w c all out h all′ out′
+    unfolding jobOfRead settled outcomeOf plainAfter unwritten changeOf changeAt changed became
+    shown-so first count source s f d a = by-test (inSetup (c .mode)) refl
       where
-        by-test : (b : Bool) → matches w guess ≡ b → Orders (order.Open guess) source values w c all out (unmoved n w c all) all out
-        by-test true m = absurd (go-stops n (rw m at h))
+        b : Answers (unwritten c) [] source (reply.Registers first count) s w all out h all′ out′
+        b = subst (λ (x : Effect). Answers x [] source (reply.Registers first count) s w all out h all′ out′) d a
+
+        by-test : (t : Bool) → inSetup (c .mode) ≡ t → Settles (jobOfRead first count source) w c all out h all′ out′
+        by-test true m =
+            let e : s ≡ seen.Shown w = f ∙ seen-in-setup (c .mode) w m in
+            record {
+              answered = λ ps. rw (m, ← e) (b .answered ps);
+              next = λ ps. rw m (b .next ps);
+              bytes = λ ps. rw (m, ← e) (b .bytes ps);
+            }
         by-test false m =
-            let e : 14 ≡ n = ap number-of (rw m at h) in
-            record { answered = λ ps. rw (m, ← e); next = λ ps. rw m; bytes = λ ps. rw m }
+            let e : s ≡ seen.Hidden = f ∙ hidden-outside (c .mode) w m in
+            record {
+              answered = λ ps. rw (m, ← e) (b .answered ps);
+              next = λ ps. rw m (b .next ps);
+              bytes = λ ps. rw (m, ← e) (b .bytes ps);
+            }
 
-    pub orders-stopped : (o : Order) (n : ℕ) (h : Handled) → verdictOf o w ≡ Stop n → h ≡ unmoved n w c all → Orders o source values w c all out h all out
-    unfolding verdictOf jobOfOrder
-    orders-stopped o n h v e = rw e (stopped o v)
-      where
-        stopped : (o : Order) → verdictOf o w ≡ Stop n → Orders o source values w c all out (unmoved n w c all) all out
-        stopped (order.Refused m) v =
-            subst (λ (k : ℕ). Orders (order.Refused m) source values w c all out (unmoved k w c all) all out) (ap number-of v) (refused-so m)
-        stopped (order.Open guess) v = wrong-guess guess n v
-        stopped order.Close v = absurd (go-stops n v)
-        stopped (order.Get first count) v = absurd (go-stops n v)
-        stopped (order.Set first) v = absurd (go-stops n v)
-        stopped (order.Activate i) v = absurd (go-stops n v)
-        stopped (order.Deactivate i) v = absurd (go-stops n v)
-        stopped (order.Goto level rate) v = absurd (go-stops n v)
-        stopped order.Stop v = absurd (go-stops n v)
-        stopped (order.Blink value) v = absurd (go-stops n v)
-        stopped order.Report v = absurd (go-stops n v)
-        stopped (order.Store i) v = absurd (go-stops n v)
-
-    module _ (h : Handled) (all′ out′ : List ℕ) where
-      right-guess :
-          (guess : Password) (s : Seen) → verdictOn w guess ≡ Go
-          → Answers (opened c) values source reply.Silence s w all out h all′ out′
-          → Orders (order.Open guess) source values w c all out h all′ out′
-      unfolding verdictOn jobOfOrder jobOfGuess settled outcomeOf plainAfter opened applied changeOf changeAt changed became replied replyMessage enveloped
-      right-guess guess s v a = by-test (matches w guess) refl
-        where
-          by-test : (b : Bool) → matches w guess ≡ b → Orders (order.Open guess) source values w c all out h all′ out′
-          by-test true m =
-              record { answered = λ ps. rw m (a .answered ps); next = λ ps. rw m (a .next ps); bytes = λ ps. rw m (a .bytes ps) }
-          by-test false m = absurd (go-stops 14 (sym (rw m at v)))
-
-      shown-so :
-          (first count : ℕ) (s : Seen) → s ≡ seenBy (c .mode) w
-          → Answers (performed all (order.Get first count) c) values source (reply.Registers first count) s w all out h all′ out′
-          → Orders (order.Get first count) source values w c all out h all′ out′
-      unfolding jobOfOrder jobOfGet settled outcomeOf plainAfter performed unwritten applied changeOf changeAt changed became
-      shown-so first count s f a = by-test (inSetup (c .mode)) refl
-        where
-          by-test : (b : Bool) → inSetup (c .mode) ≡ b → Orders (order.Get first count) source values w c all out h all′ out′
-          by-test true m =
-              let e : s ≡ seen.Shown w = f ∙ seen-in-setup (c .mode) w m in
-              record {
-                answered = λ ps. rw (m, ← e) (a .answered ps);
-                next = λ ps. rw m (a .next ps);
-                bytes = λ ps. rw (m, ← e) (a .bytes ps);
-              }
-          by-test false m =
-              let e : s ≡ seen.Hidden = f ∙ hidden-outside (c .mode) w m in
-              record {
-                answered = λ ps. rw (m, ← e) (a .answered ps);
-                next = λ ps. rw m (a .next ps);
-                bytes = λ ps. rw (m, ← e) (a .bytes ps);
-              }
-
-      pub orders-granted :
-          (o : Order) (v : Verdict) (e : Effect) (r : Reply) (s : Seen)
-          → v ≡ verdictOf o w → v ≡ Go → e ≡ effectOf all o c → r ≡ replyTo o → s ≡ seenBy (c .mode) w
-          → Answers e values source r s w all out h all′ out′
-          → Orders o source values w c all out h all′ out′
-      unfolding verdictOf effectOf jobOfOrder jobOfAct settled outcomeOf plainAfter replyTo replied replyMessage
-      orders-granted o v e r s f g d t f′ a = granted o (sym f ∙ g) (rw (← d, ← t) a)
-        where
-          granted :
-              (o : Order) → verdictOf o w ≡ Go → Answers (effectOf all o c) values source (replyTo o) s w all out h all′ out′
-              → Orders o source values w c all out h all′ out′
-          granted (order.Refused n) v a = absurd (go-stops n (sym v))
-          granted (order.Open guess) v a = right-guess guess s v a
-          granted order.Close v a = a
-          granted (order.Get first count) v a = shown-so first count s f′ a
-          granted (order.Set first) v a = a
-          granted (order.Activate i) v a = a
-          granted (order.Deactivate i) v a = a
-          granted (order.Goto level rate) v a = a
-          granted order.Stop v a = a
-          granted (order.Blink value) v a = a
-          granted order.Report v a = a
-          granted (order.Store i) v a = a
-
--- An order that is neither refused nor Start Setup is granted, and one that is not Start Setup is performed.
-pub granted-else : (o : Order) (w : Password) → OneOf (2 ∷ 3 ∷ 4 ∷ 5 ∷ 6 ∷ 7 ∷ 8 ∷ 9 ∷ 10 ∷ 11 ∷ []) (tagOf Order.the-type o) → Go ≡ verdictOf o w
-unfolding verdictOf
-granted-else (order.Refused n) w k = absurd (miss (2 ∷ 3 ∷ 4 ∷ 5 ∷ 6 ∷ 7 ∷ 8 ∷ 9 ∷ 10 ∷ 11 ∷ []) 0 tt k)
-granted-else (order.Open guess) w k = absurd (miss (2 ∷ 3 ∷ 4 ∷ 5 ∷ 6 ∷ 7 ∷ 8 ∷ 9 ∷ 10 ∷ 11 ∷ []) 1 tt k)
-granted-else order.Close w k = refl
-granted-else (order.Get first count) w k = refl
-granted-else (order.Set first) w k = refl
-granted-else (order.Activate i) w k = refl
-granted-else (order.Deactivate i) w k = refl
-granted-else (order.Goto level rate) w k = refl
-granted-else order.Stop w k = refl
-granted-else (order.Blink value) w k = refl
-granted-else order.Report w k = refl
-granted-else (order.Store i) w k = refl
-
-pub performed-else : (all : List ℕ) (o : Order) (c : Core) → OneOf (0 ∷ 2 ∷ 3 ∷ 4 ∷ 5 ∷ 6 ∷ 7 ∷ 8 ∷ 9 ∷ 10 ∷ 11 ∷ []) (tagOf Order.the-type o) → performed all o c ≡ effectOf all o c
-unfolding effectOf
-performed-else all (order.Refused n) c k = refl
-performed-else all (order.Open guess) c k = absurd (miss (0 ∷ 2 ∷ 3 ∷ 4 ∷ 5 ∷ 6 ∷ 7 ∷ 8 ∷ 9 ∷ 10 ∷ 11 ∷ []) 1 tt k)
-performed-else all order.Close c k = refl
-performed-else all (order.Get first count) c k = refl
-performed-else all (order.Set first) c k = refl
-performed-else all (order.Activate i) c k = refl
-performed-else all (order.Deactivate i) c k = refl
-performed-else all (order.Goto level rate) c k = refl
-performed-else all order.Stop c k = refl
-performed-else all (order.Blink value) c k = refl
-performed-else all order.Report c k = refl
-performed-else all (order.Store i) c k = refl
+    pub done-so :
+        (o : Work) (source : ℕ) (values : List ℕ) (r : Reply) → e ≡ performed all o c → r ≡ replyTo o
+        → Answers e values source r seen.Hidden w all out h all′ out′
+        → Settles (jobOfWork o source values) w c all out h all′ out′
+    unfolding jobOfWork settled outcomeOf plainAfter
+    done-so o source values r d t a =
+        let b : Answers (performed all o c) values source (replyTo o) seen.Hidden w all out h all′ out′ = rw (← d, ← t) a in b
 
 unread : (f : Frame) (message : List ℕ) (p : Plain) → OneOf (1 ∷ 2 ∷ 3 ∷ 4 ∷ 5 ∷ []) (tagOf Frame.the-type f) → jobOfFrame f message p ≡ done (garbled (numberOfFrame f) p) nothing
 unfolding jobOfFrame
@@ -294,11 +193,11 @@ module _ (bytes : List ℕ) (w : Password) (c : Core) (all out : List ℕ) where
     pub handles-read :
         (header : Header) (o : Order) (message values : List ℕ) (h : Handled) (all′ out′ : List ℕ)
         → readOf bytes ≡ frame.Read header → message ≡ messageOf bytes → o ≡ judged all (c .mode) header message → values ≡ drop 2 message
-        → Orders o (header .source) values w c all out h all′ out′
+        → Settles (jobOfOrder o (header .source) values) w c all out h all′ out′
         → Handles bytes w c all out h all′ out′
     unfolding Product.responseOf jobOfDeed jobOfBytes jobOfFrame
     handles-read header o message values h all′ out′ f m j v s =
-        let b : Orders (judged all (c .mode) header (messageOf bytes)) (header .source) (drop 2 (messageOf bytes)) w c all out h all′ out′ = rw (← m, ← j, ← v) s in
+        let b : Settles (jobOfOrder (judged all (c .mode) header (messageOf bytes)) (header .source) (drop 2 (messageOf bytes))) w c all out h all′ out′ = rw (← m, ← j, ← v) s in
         record {
           answered = λ ps. rw (enough-room (plain all c ps) (length out) (receive bytes) room, f) (b .answered ps);
           next = λ ps. rw (enough-room (plain all c ps) (length out) (receive bytes) room, f) (b .next ps);

@@ -9,7 +9,6 @@ use Rattle.words.specs.Words.{if_then_else_}
 use Rattle.timers.specs.Timers.{less}
 use Rattle.lamp.specs.declared.Colour.the-variants.{Black, Red}
 use Rattle.vault.specs.Job.{Answered, answered, changed, settled, switch}
-use Rattle.vault.specs.Vault.{matches}
 use Rattle.vault.specs.declared.Password.{Password}
 use Rattle.vault.specs.declared.Mode.{Mode}
 use Rattle.vault.specs.declared.Mode.the-variants.{Normal, Setup, Factory}
@@ -17,8 +16,7 @@ use Rattle.paddle.specs.Paddle.{nextPaddle, gesture}
 use Rattle.paddle.specs.declared.Gesture.{Gesture}
 use Rattle.paddle.specs.declared.Paddle.{Paddle}
 use Rattle.paddle.specs.Code.{completesNothing}
-use Rattle.acts.specs.Core.{aged, core, opened, signalled}
-use Rattle.acts.specs.Orders.{performed}
+use Rattle.acts.specs.Core.{aged, core, signalled}
 use Rattle.acts.specs.declared.Core.{Core}
 use Rattle.acts.specs.declared.Effect.{Effect}
 use Rattle.post.specs.Post.{placed}
@@ -28,11 +26,9 @@ use Rattle.post.specs.Code.{sentOf}
 use Rattle.registers.specs.Write.{changeOf}
 use Rattle.registers.specs.declared.Seen.{Seen}
 use Rattle.registers.specs.declared.Seen.the-variants as seen
-use Rattle.judge.specs.declared.Order.{Order}
-use Rattle.judge.specs.declared.Order.the-variants as order
 use Rattle.switch.specs.Switch.{Plain, Shown, plain, event, receive, held, tally, answerWith, answerOf}
 use Rattle.switch.specs.Paddles.{Moment}
-use Rattle.switch.specs.Events.{outcomeOf, jobOfOrder, woken}
+use Rattle.switch.specs.Events.{SwitchJob, outcomeOf, woken}
 use Rattle.switch.specs.Respond.{respond, nobody, noAnswer}
 use Rattle.switch.specs.declared.Answer.{Answer}
 use Rattle.switch.specs.declared.Live.{Live}
@@ -41,8 +37,6 @@ use Rattle.switch.specs.declared.Sent.{Sent}
 use Rattle.switch.specs.declared.edges.Edge.{Edge}
 use Rattle.switch.specs.declared.paddles.Recognised.{Recognised}
 use Rattle.switch.specs.declared.receive.Handled.{Handled}
-use Rattle.switch.specs.declared.receive.Verdict.{Verdict}
-use Rattle.switch.specs.declared.receive.Verdict.the-variants.{Stop, Go}
 use Rattle.switch.specs.declared.tick.Passed.{Passed}
 
 -- An event that is refused: the switch is shown as it stands, and stays so.
@@ -81,48 +75,14 @@ OneHandled =
     (bytes : List ℕ) (w : Password) (c : Core) (all out : List ℕ) (h h′ : Handled) (all′ all″ out′ out″ : List ℕ)
     → Handles bytes w c all out h all′ out′ → Handles bytes w c all out h′ all″ out″ → (h ≡ h′) × ((all′ ≡ all″) × (out′ ≡ out″))
 
--- An order, settled as its job says.
-abbrev pub Orders : Order → ℕ → List ℕ → Password → Core → List ℕ → List ℕ → Handled → List ℕ → List ℕ → Type 0
-Orders o source values w c all out = Leads (λ ps. settled w (jobOfOrder o source values (plain all c ps))) out
+-- A job, settled as it says.
+abbrev pub Settles : (Plain → SwitchJob) → Password → Core → List ℕ → List ℕ → Handled → List ℕ → List ℕ → Type 0
+Settles asked w c all out = Leads (λ ps. settled w (asked (plain all c ps))) out
 
 -- An act, answered as `outcomeOf` has it.
 abbrev pub Answers : Effect → List ℕ → ℕ → Reply → Seen → Password → List ℕ → List ℕ → Handled → List ℕ → List ℕ → Type 0
 Answers e values source r s w all out =
     Leads (λ ps. answered (outcomeOf e values source r (plain all (e .core) ps) s) (changed (changeOf (e .write) values) w)) out
-
--- 01, Answer numbers, row 14: a wrong guess.
-unfoldable pub verdictOn : Password → Password → Verdict
-verdictOn w guess = if matches w guess then Go else Stop 14
-
--- Whether an order is refused: by its own number, or by 14.
-unfoldable pub verdictOf : Order → Password → Verdict
-verdictOf (order.Refused n) w = Stop n
-verdictOf (order.Open guess) w = verdictOn w guess
-verdictOf order.Close w = Go
-verdictOf (order.Get first count) w = Go
-verdictOf (order.Set first) w = Go
-verdictOf (order.Activate i) w = Go
-verdictOf (order.Deactivate i) w = Go
-verdictOf (order.Goto level rate) w = Go
-verdictOf order.Stop w = Go
-verdictOf (order.Blink value) w = Go
-verdictOf order.Report w = Go
-verdictOf (order.Store i) w = Go
-
--- What a granted order does.
-unfoldable pub effectOf : List ℕ → Order → Core → Effect
-effectOf all (order.Refused n) c = performed all (order.Refused n) c
-effectOf all (order.Open guess) c = opened c
-effectOf all order.Close c = performed all order.Close c
-effectOf all (order.Get first count) c = performed all (order.Get first count) c
-effectOf all (order.Set first) c = performed all (order.Set first) c
-effectOf all (order.Activate i) c = performed all (order.Activate i) c
-effectOf all (order.Deactivate i) c = performed all (order.Deactivate i) c
-effectOf all (order.Goto level rate) c = performed all (order.Goto level rate) c
-effectOf all order.Stop c = performed all order.Stop c
-effectOf all (order.Blink value) c = performed all (order.Blink value) c
-effectOf all order.Report c = performed all order.Report c
-effectOf all (order.Store i) c = performed all (order.Store i) c
 
 -- What start and restart share.
 pub record Wakes (w : Password) (all : List ℕ) (answer : Answer) (live′ : Live) (all′ : List ℕ) : Type 0 where

@@ -1,5 +1,5 @@
 -- What each event asks of the switch, as a job. jobOfX is the job that X makes of a state: a deed, its bytes, their frame, its order, its
--- act. The password is no argument of any of them; a job can hold a guess to compare with it or a function to show it by (vault).
+-- work. The password is no argument of any of them; a job can hold a guess to compare with it or a function to show it by (vault).
 use mathlib.Core.List.{List, [], _∷_, map}
 use Prim.Native.Nat.{ℕ, _%_}
 use lib.Dec.{ltb}
@@ -27,7 +27,9 @@ use Rattle.registers.specs.declared.write.Write.the-variants.{Count}
 use Rattle.judge.specs.Judge.{judged}
 use Rattle.judge.specs.declared.Order.{Order}
 use Rattle.judge.specs.declared.Order.the-variants as order
-use Rattle.acts.specs.Core.{core, started, aged, saved, opened, signalled}
+use Rattle.judge.specs.declared.Work.{Work}
+use Rattle.judge.specs.declared.Work.the-variants as work
+use Rattle.acts.specs.Core.{core, unwritten, started, aged, saved, opened, signalled}
 use Rattle.acts.specs.Orders.{performed}
 use Rattle.acts.specs.declared.Core.{Core}
 use Rattle.acts.specs.declared.Effect.{Effect}
@@ -109,20 +111,13 @@ woken all =
 unfoldable pub jobOfRestart : Plain → SwitchJob
 jobOfRestart p = done (outcome (shown 0 [] (woken (p .registers))) (woken (p .registers))) nothing
 
--- 01, Commands, 3 (0x10, 0x30): Get and Report have a reply, the other orders none.
-unfoldable pub replyTo : Order → Reply
-replyTo (order.Refused n) = reply.Silence
-replyTo (order.Open guess) = reply.Silence
-replyTo order.Close = reply.Silence
-replyTo (order.Get first count) = reply.Registers first count
-replyTo (order.Set first) = reply.Silence
-replyTo (order.Activate i) = reply.Silence
-replyTo (order.Deactivate i) = reply.Silence
-replyTo (order.Goto level rate) = reply.Silence
-replyTo order.Stop = reply.Silence
-replyTo (order.Blink value) = reply.Silence
-replyTo order.Report = reply.Status
-replyTo (order.Store i) = reply.Silence
+-- 01, Commands, 3 (0x30): Report has a reply, no other work has one.
+unfoldable pub replyTo : Work → Reply
+replyTo work.Report = reply.Status
+replyTo work.Close = reply.Silence
+replyTo (work.Set first) = reply.Silence
+replyTo (work.Store i) = reply.Silence
+replyTo (work.Drive d) = reply.Silence
 
 -- 01, Lamp, start, factory values, 1 (diagnostic): after a packet that is answered 0 the signal is red if a reply is sent, else green.
 unfoldable pub hueOf : Reply → Colour
@@ -146,34 +141,26 @@ jobOfGuess guess p =
     compare guess (outcomeOf (opened (p .core)) [] 0 reply.Silence p seen.Hidden) (refused 14 p)
 
 -- 01, Commands, 3 (0x10) and 9: in Setup the password is read with the rest, elsewhere as zeros.
-unfoldable pub jobOfGet : ℕ → ℕ → ℕ → Plain → SwitchJob
-jobOfGet first count source p =
-    let o = performed (p .registers) (order.Get first count) (p .core) in
+unfoldable pub jobOfRead : ℕ → ℕ → ℕ → Plain → SwitchJob
+jobOfRead first count source p =
+    let o = unwritten (p .core) in
     let r = reply.Registers first count in
     if inSetup (p .core .mode)
     then reveal (λ w. outcomeOf o [] source r p (seen.Shown w) .shown) (outcomeOf o [] source r p seen.Hidden .next)
     else done (outcomeOf o [] source r p seen.Hidden) nothing
 
--- Any other order that is not refused. The values are those of Set Registers.
-unfoldable pub jobOfAct : Order → ℕ → List ℕ → Plain → SwitchJob
-jobOfAct o source values p =
-    let e = performed (p .registers) o (p .core) in
-    done (outcomeOf e values source (replyTo o) p seen.Hidden) (changeOf (e .write) values)
+-- A work. The values are those of Set Registers.
+unfoldable pub jobOfWork : Work → ℕ → List ℕ → Plain → SwitchJob
+jobOfWork w source values p =
+    let e = performed (p .registers) w (p .core) in
+    done (outcomeOf e values source (replyTo w) p seen.Hidden) (changeOf (e .write) values)
 
 -- What the judgement orders, 9 to 13 refused without a signal (01, Lamp, start, factory values, 3).
 unfoldable pub jobOfOrder : Order → ℕ → List ℕ → Plain → SwitchJob
 jobOfOrder (order.Refused n) source values p = done (refused n p) nothing
-jobOfOrder (order.Open guess) source values p = jobOfGuess guess p
-jobOfOrder order.Close source values p = jobOfAct order.Close source values p
-jobOfOrder (order.Get first count) source values p = jobOfGet first count source p
-jobOfOrder (order.Set first) source values p = jobOfAct (order.Set first) source values p
-jobOfOrder (order.Activate i) source values p = jobOfAct (order.Activate i) source values p
-jobOfOrder (order.Deactivate i) source values p = jobOfAct (order.Deactivate i) source values p
-jobOfOrder (order.Goto level rate) source values p = jobOfAct (order.Goto level rate) source values p
-jobOfOrder order.Stop source values p = jobOfAct order.Stop source values p
-jobOfOrder (order.Blink value) source values p = jobOfAct (order.Blink value) source values p
-jobOfOrder order.Report source values p = jobOfAct order.Report source values p
-jobOfOrder (order.Store i) source values p = jobOfAct (order.Store i) source values p
+jobOfOrder (order.Guess guess) source values p = jobOfGuess guess p
+jobOfOrder (order.Read first count) source values p = jobOfRead first count source p
+jobOfOrder (order.Work w) source values p = jobOfWork w source values p
 
 -- 01, Answer numbers, 2 and 01, Lamp, start, factory values, 1 (diagnostic): 4 to 8 begin the black signal and change nothing else.
 unfoldable pub garbled : ℕ → Plain → Outcome Plain Shown

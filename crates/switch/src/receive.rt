@@ -3,9 +3,9 @@ ghost use mathlib.Core.Path.{_≡_};
 ghost use Prim.Native.Nat.{_≤_};
 ghost use lib.ListN.{length, drop};
 ghost use Rattle.switch.specs.Switch.{receive};
-ghost use Rattle.switch.specs.Events.{hueOf, replyTo};
+ghost use Rattle.switch.specs.Events.{hueOf, jobOfGuess, jobOfOrder, jobOfRead, jobOfWork, replyTo};
 ghost use Rattle.switch.specs.Respond.{Responds};
-ghost use Rattle.switch.specs.Code.{Answers, Handles, Orders, effectOf, garbledBy, unmoved, verdictOf, verdictOn, seenBy};
+ghost use Rattle.switch.specs.Code.{Answers, Handles, Settles, garbledBy, unmoved, seenBy};
 use crate::Answer;
 use crate::Handed;
 use crate::Live;
@@ -16,6 +16,7 @@ use acts::Core;
 use acts::Effect;
 use acts::orders::perform;
 use judge::Order;
+use judge::Work;
 use lamp::Colour;
 use packet::Frame;
 use post::Reply;
@@ -29,12 +30,6 @@ pub struct Handled {
     pub answer: Answer,
     pub core: Core,
     pub password: Password,
-}
-
-// Whether an order is refused, its guess compared with the password, or granted.
-enum Verdict {
-    Stop(u8),
-    Go,
 }
 
 pub fn receive(live: Live, all: &mut [u8; 256], packet: &[u8], out: &mut [u8]) -> Handed
@@ -119,7 +114,7 @@ fn values(message: &[u8]) -> &[u8]
     &message[2..]
 }
 
-// The order is granted or refused. Only two see the password: a guess is compared with it, and a Get Registers in Setup shows it.
+// Only two orders see the password: a guess is compared with it, and a reading in Setup shows it.
 fn settle(
     core: Core,
     password: Password,
@@ -130,47 +125,86 @@ fn settle(
     out: &mut [u8],
 ) -> Handled
     requires { ⌜ 48 ≤ length (now out) ⌝ }
-    ensures { λ r. ⌜ Orders order source (now (values .entry)) password core (now (all .entry)) (now (out .entry)) r (now (all .exit)) (now (out .exit)) ⌝ }
-{
-    let verdict = verdict_of(order, password);
-    if let Verdict::Stop(number) = verdict {
-        return unmoved(core, password, all, number);
-    }
-    let mode = core.mode;
-    let effect = effect_of(core, all, order);
-    let reply = reply_to(order);
-    let seen = seen_by(mode, password);
-    answered(effect, password, all, values, source, reply, seen, out)
-}
-
-// A wrong password is refused by 14.
-fn verdict_of(order: Order, password: Password) -> Verdict
-    ensures { λ r. ⌜ r ≡ verdictOf order password ⌝ }
+    ensures { λ r. ⌜ Settles (jobOfOrder order source (now (values .entry))) password core (now (all .entry)) (now (out .entry)) r (now (all .exit)) (now (out .exit)) ⌝ }
 {
     match order {
-        Order::Refused(number) => Verdict::Stop(number),
-        Order::Open(guess) => opening(password, guess),
-        _ => Verdict::Go,
+        Order::Refused(number) => unmoved(core, password, all, number),
+        Order::Guess(guess) => opening(core, password, all, guess, out),
+        Order::Read { first, count } => reading(core, password, all, first, count, source, out),
+        Order::Work(work) => working(core, password, all, work, source, values, out),
     }
 }
 
-fn opening(password: Password, guess: Password) -> Verdict
-    ensures { λ r. ⌜ r ≡ verdictOn password guess ⌝ }
+// A right guess opens Setup, a wrong one is refused by 14.
+fn opening(
+    core: Core,
+    password: Password,
+    all: &mut [u8; 256],
+    guess: Password,
+    out: &mut [u8],
+) -> Handled
+    requires { ⌜ 48 ≤ length (now out) ⌝ }
+    ensures { λ r. ⌜ Settles (jobOfGuess guess) password core (now (all .entry)) (now (out .entry)) r (now (all .exit)) (now (out .exit)) ⌝ }
 {
-    if password.matches(guess) {
-        return Verdict::Go;
+    if !password.matches(guess) {
+        return unmoved(core, password, all, 14);
     }
-    Verdict::Stop(14)
+    let effect = core.opened();
+    answered(
+        effect,
+        password,
+        all,
+        b"",
+        0,
+        Reply::Silence,
+        Seen::Hidden,
+        out,
+    )
 }
 
-// What a granted order does: Start Setup opens.
-fn effect_of(core: Core, all: &[u8; 256], order: Order) -> Effect
-    ensures { λ r. ⌜ r ≡ effectOf (now (all .entry)) order core ⌝ }
+fn reading(
+    core: Core,
+    password: Password,
+    all: &mut [u8; 256],
+    first: u8,
+    count: u8,
+    source: u8,
+    out: &mut [u8],
+) -> Handled
+    requires { ⌜ 48 ≤ length (now out) ⌝ }
+    ensures { λ r. ⌜ Settles (jobOfRead first count source) password core (now (all .entry)) (now (out .entry)) r (now (all .exit)) (now (out .exit)) ⌝ }
 {
-    if let Order::Open(_) = order {
-        return core.opened();
-    }
-    perform(core, all, order)
+    let mode = core.mode;
+    let seen = seen_by(mode, password);
+    let effect = core.unwritten();
+    let reply = Reply::Registers { first, count };
+    answered(effect, password, all, b"", source, reply, seen, out)
+}
+
+fn working(
+    core: Core,
+    password: Password,
+    all: &mut [u8; 256],
+    work: Work,
+    source: u8,
+    values: &[u8],
+    out: &mut [u8],
+) -> Handled
+    requires { ⌜ 48 ≤ length (now out) ⌝ }
+    ensures { λ r. ⌜ Settles (jobOfWork work source (now (values .entry))) password core (now (all .entry)) (now (out .entry)) r (now (all .exit)) (now (out .exit)) ⌝ }
+{
+    let effect = perform(core, all, work);
+    let reply = reply_to(work);
+    answered(
+        effect,
+        password,
+        all,
+        values,
+        source,
+        reply,
+        Seen::Hidden,
+        out,
+    )
 }
 
 fn seen_by(mode: Mode, password: Password) -> Seen
@@ -183,13 +217,15 @@ fn seen_by(mode: Mode, password: Password) -> Seen
     }
 }
 
-fn reply_to(order: Order) -> Reply
-    ensures { λ r. ⌜ r ≡ replyTo order ⌝ }
+fn reply_to(work: Work) -> Reply
+    ensures { λ r. ⌜ r ≡ replyTo work ⌝ }
 {
-    match order {
-        Order::Get { first, count } => Reply::Registers { first, count },
-        Order::Report => Reply::Status,
-        _ => Reply::Silence,
+    match work {
+        Work::Report => Reply::Status,
+        Work::Close => Reply::Silence,
+        Work::Set { .. } => Reply::Silence,
+        Work::Store(_) => Reply::Silence,
+        Work::Drive(_) => Reply::Silence,
     }
 }
 

@@ -4,18 +4,12 @@ use Rattle.acts.specs.Core.{setting}
 use Rattle.acts.proofs.Core.setting.Statement.{statement}
 use Rattle.acts.proofs.Core.setting.Tie as tie
 
-dimming-requires : tie.Need-dimming-requires
-dimming-requires c κs = search needs
-
-of-requires : tie.Need-of-requires
-of-requires c κs = search needs
-
-set-requires : tie.Need-set-requires
-set-requires c κs = search needs
+set-by-requires : tie.Need-set-by-requires
+set-by-requires c κs = search needs
 
 returns : tie.Need-returns
 unfolding setting
-returns c = search (tests, c .set .ensures, c .before .of .ensures, c .before .before .dimming .ensures)
+returns c = search (tests, c .set-by .ensures)
 
 pub setting-spec : {M : Type 1} → statement M
-setting-spec = tie.close (tie.spec dimming-requires of-requires set-requires returns)
+setting-spec = tie.close (tie.spec set-by-requires returns)

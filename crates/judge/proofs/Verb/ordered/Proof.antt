@@ -36,38 +36,50 @@ enum-told-5 c = search needs
 component-requires : tie.Need-component-requires
 component-requires c κs = search needs
 
+driving-requires : tie.Need-driving-requires
+driving-requires c κs = search needs
+
 enum-told-6 : tie.Need-enum-told-6
 enum-told-6 c = search needs
 
 component-requires-2 : tie.Need-component-requires-2
 component-requires-2 c κs = search needs
 
+driving-requires-2 : tie.Need-driving-requires-2
+driving-requires-2 c κs = search needs
+
 enum-told-7 : tie.Need-enum-told-7
 enum-told-7 c = search needs
 
-argument-requires-6 : tie.Need-argument-requires-6
-argument-requires-6 c κs = search needs
+going-requires : tie.Need-going-requires
+going-requires c κs = search needs
 
-optional-requires : tie.Need-optional-requires
-optional-requires c κs = search needs
+driving-requires-3 : tie.Need-driving-requires-3
+driving-requires-3 c κs = search needs
 
 enum-told-8 : tie.Need-enum-told-8
 enum-told-8 c = search needs
 
-argument-requires-7 : tie.Need-argument-requires-7
-argument-requires-7 c κs = search needs
+going-requires-2 : tie.Need-going-requires-2
+going-requires-2 c κs = search needs
 
-optional-requires-2 : tie.Need-optional-requires-2
-optional-requires-2 c κs = search needs
+driving-requires-4 : tie.Need-driving-requires-4
+driving-requires-4 c κs = search needs
 
 enum-told-9 : tie.Need-enum-told-9
 enum-told-9 c = search needs
 
+driving-requires-5 : tie.Need-driving-requires-5
+driving-requires-5 c κs = search needs
+
 enum-told-10 : tie.Need-enum-told-10
 enum-told-10 c = search needs
 
-optional-requires-3 : tie.Need-optional-requires-3
-optional-requires-3 c κs = search needs
+optional-requires : tie.Need-optional-requires
+optional-requires c κs = search needs
+
+driving-requires-6 : tie.Need-driving-requires-6
+driving-requires-6 c κs = search needs
 
 enum-told-11 : tie.Need-enum-told-11
 enum-told-11 c = search needs
@@ -99,27 +111,27 @@ returns-4 c = rw (c .before .enum-told4 .given .1, c .argument5 .ensures)
 
 returns-5 : tie.Need-returns-5
 unfolding ordered
-returns-5 c = rw (c .before .enum-told5 .given .1, c .component .ensures)
+returns-5 c = rw (c .before .before .enum-told5 .given .1, c .driving .ensures, c .before .component .ensures)
 
 returns-6 : tie.Need-returns-6
 unfolding ordered
-returns-6 c = rw (c .before .enum-told6 .given .1, c .component2 .ensures)
+returns-6 c = rw (c .before .before .enum-told6 .given .1, c .driving2 .ensures, c .before .component2 .ensures)
 
 returns-7 : tie.Need-returns-7
 unfolding ordered
-returns-7 c = rw (c .before .before .enum-told7 .given .1, c .before .argument6 .ensures, c .optional .ensures)
+returns-7 c = rw (c .before .before .enum-told7 .given .1, c .driving3 .ensures, c .before .going .ensures)
 
 returns-8 : tie.Need-returns-8
 unfolding ordered
-returns-8 c = rw (c .before .before .enum-told8 .given .1, c .before .argument7 .ensures, c .optional2 .ensures)
+returns-8 c = rw (c .before .before .enum-told8 .given .1, c .driving4 .ensures, c .before .going2 .ensures)
 
 returns-9 : tie.Need-returns-9
 unfolding ordered
-returns-9 c = rw (c .enum-told9 .given .1)
+returns-9 c = rw (c .before .enum-told9 .given .1, c .driving5 .ensures)
 
 returns-10 : tie.Need-returns-10
 unfolding ordered
-returns-10 c = rw (c .before .enum-told10 .given .1, c .optional3 .ensures)
+returns-10 c = rw (c .before .before .enum-told10 .given .1, c .driving6 .ensures, c .before .optional .ensures)
 
 returns-11 : tie.Need-returns-11
 unfolding ordered
@@ -148,17 +160,21 @@ ordered-spec =
     argument-requires-5
     enum-told-5
     component-requires
+    driving-requires
     enum-told-6
     component-requires-2
+    driving-requires-2
     enum-told-7
-    argument-requires-6
-    optional-requires
+    going-requires
+    driving-requires-3
     enum-told-8
-    argument-requires-7
-    optional-requires-2
+    going-requires-2
+    driving-requires-4
     enum-told-9
+    driving-requires-5
     enum-told-10
-    optional-requires-3
+    optional-requires
+    driving-requires-6
     enum-told-11
     enum-told-12
     component-requires-3
