@@ -92,13 +92,13 @@ static void make(int which, const uint8_t password[2])
     memcpy(image + 0x02, password, 2);
     image[0x8D] |= 0x13;
     image[0xF9] |= 40;
-    well = melszondru_parts_start(image, sizeof image, held.counters, held.numbers, held.registers).number == 0;
+    well = melszondru_parts_start(image, sizeof image, held.counters, held.numbers, held.paddles, held.registers).number == 0;
     if (which == FADES) {
         write_packet(0x22, 90, 5);
         well &= receive().number == 0;
-        well &= melszondru_parts_press(held.counters, held.numbers, held.registers, 0, out, sizeof out).number == 0;
+        well &= melszondru_parts_press(held.counters, held.numbers, held.paddles, held.registers, 0, out, sizeof out).number == 0;
         for (int i = 0; i < 100; i++)
-            well &= melszondru_parts_tick(held.counters, held.numbers, held.registers, out, sizeof out).number == 0;
+            well &= melszondru_parts_tick(held.counters, held.numbers, held.paddles, held.registers, out, sizeof out).number == 0;
     }
     if (which == BLINKS) {
         write_packet(0x03, 0, 0);

@@ -16,17 +16,20 @@ static const char *const NAMES[FUNCTIONS] = {"",      "melszondru_parts_start", 
 
 static struct melszondru held;
 static struct melszondru_answer answer;
-static uint8_t image[256], out[48], contact;
+static uint8_t image[MELSZONDRU_REGISTERS], out[MELSZONDRU_ROOM], contact;
 static const uint8_t *packet;
 static size_t length;
 
+#define CORE held.counters, held.numbers
+#define WHOLE CORE, held.paddles, held.registers
+
 static void empty(void) {}
-static void starts(void) { answer = melszondru_parts_start(image, 256, held.counters, held.numbers, held.registers); }
-static void presses(void) { answer = melszondru_parts_press(held.counters, held.numbers, held.registers, contact, out, 48); }
-static void releases(void) { answer = melszondru_parts_release(held.counters, held.numbers, held.registers, contact, out, 48); }
-static void ticks(void) { answer = melszondru_parts_tick(held.counters, held.numbers, held.registers, out, 48); }
-static void receives(void) { answer = melszondru_parts_receive(held.counters, held.numbers, held.registers, packet, length, out, 48); }
-static void restarts(void) { answer = melszondru_parts_restart(held.counters, held.numbers, held.registers, out, 48); }
+static void starts(void) { answer = melszondru_parts_start(image, sizeof image, WHOLE); }
+static void presses(void) { answer = melszondru_parts_press(WHOLE, contact, out, sizeof out); }
+static void releases(void) { answer = melszondru_parts_release(WHOLE, contact, out, sizeof out); }
+static void ticks(void) { answer = melszondru_parts_tick(WHOLE, out, sizeof out); }
+static void receives(void) { answer = melszondru_parts_receive(CORE, held.registers, packet, length, out, sizeof out); }
+static void restarts(void) { answer = melszondru_parts_restart(WHOLE, out, sizeof out); }
 static void images(void) { melszondru_parts_image(held.numbers, held.registers, image); }
 
 static void (*const CALLS[FUNCTIONS])(void) = {empty, starts, presses, releases, ticks, receives, restarts, images};

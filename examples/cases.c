@@ -52,7 +52,7 @@ static int case_a(void)
     int rest = 1;
     for (size_t i = sizeof tells; i < sizeof out; i++)
         rest &= out[i] == 0xAA;
-    return told("(a) report status", begun && a.number == MELSZONDRU_DONE && a.count == 1 && length == sizeof tells && a.second == 0
+    return told("(a) report status", begun && a.number == MELSZONDRU_DONE && a.count == 1 && length == sizeof tells && a.lengths[1] == 0
                                          && memcmp(reply, tells, sizeof tells) == 0 && rest);
 }
 
@@ -113,14 +113,14 @@ static int busy(struct melszondru *s)
     well &= melszondru_press(s, MELSZONDRU_LOCAL_TOP, out, sizeof out).number == MELSZONDRU_DONE;
     for (int i = 0; i < 100; i++)
         well &= melszondru_tick(s, out, sizeof out).number == MELSZONDRU_DONE;
-    return well && s->counters[5] != 0 && s->counters[10] != 0 && s->numbers[11] != 0;
+    return well && s->counters[5] != 0 && s->counters[6] != 0 && s->numbers[5] != 0 && s->paddles[0] != 0;
 }
 
 /* A refused start is 1 and nothing else, and leaves every byte of a running switch. */
 static int case_refused(void)
 {
     static const size_t lengths[] = {0, 1, 255, 257};
-    static const struct melszondru_answer one = {MELSZONDRU_WRONG_IMAGE, 0, 0, 0, 0, 0, 0, 0};
+    static const struct melszondru_answer one = {{0}, 0, MELSZONDRU_WRONG_IMAGE, 0, 0, 0, 0};
     struct melszondru s, before;
     int well = busy(&s);
     before = s;

@@ -13,7 +13,7 @@
  * call (examples/loop.c does). Every call ends, and waits for nothing.
  *
  * From the C library the archive needs memcpy and memmove and nothing else (`nm -u`), and nothing is to be set up before the first
- * call. The deepest stack that was measured is 672 bytes (docs/PERFORMANCE.md has each function's; measured, not proved).
+ * call. The deepest stack that was measured is 336 bytes (docs/PERFORMANCE.md has each function's; measured, not proved).
  *
  * It is built for x86-64 Linux: the toolchain has no other target today.
  */
@@ -23,8 +23,10 @@
 #include <stddef.h>
 #include <stdint.h>
 
-/* Version 1 had the functions that take parts, under the plain names. The landing is the delivery that the header belongs to. */
-#define MELSZONDRU_HEADER_VERSION 2
+/* Version 1 had the functions that take parts, under the plain names. Version 2 had no array for the paddles, took what it only
+ * read without const, and had first and second in place of the answer's lengths. The landing is the delivery that the header
+ * belongs to. */
+#define MELSZONDRU_HEADER_VERSION 3
 #define MELSZONDRU_LANDING 0
 
 #ifndef MELSZONDRU_INLINE
@@ -42,12 +44,14 @@ extern "C" {
 #endif
 
 enum {
-    MELSZONDRU_COUNTERS = 11,
-    MELSZONDRU_NUMBERS = 14,
-    MELSZONDRU_REGISTERS = 256, /* and the bytes of an image */
-    MELSZONDRU_ROOM = 48,       /* the least buffer that an event takes: two places */
-    MELSZONDRU_PLACE = 24,      /* the bytes of a place, and of the longest packet */
-    MELSZONDRU_SECOND = 240     /* the ticks of a second */
+    MELSZONDRU_PADDLES = 2, /* top and bottom; an event sends at most a packet for each */
+    MELSZONDRU_COUNTERS = 7,
+    MELSZONDRU_NUMBERS = 8,
+    MELSZONDRU_BYTES = 4 * MELSZONDRU_PADDLES,               /* what is kept of the paddles */
+    MELSZONDRU_REGISTERS = 256,                              /* and the bytes of an image */
+    MELSZONDRU_PLACE = 24,                                   /* the bytes of a place, and of the longest packet */
+    MELSZONDRU_ROOM = MELSZONDRU_PADDLES * MELSZONDRU_PLACE, /* the least buffer that an event takes: a place for each paddle */
+    MELSZONDRU_SECOND = 240                                  /* the ticks of a second */
 };
 
 enum {
@@ -61,7 +65,7 @@ enum {
 enum {
     MELSZONDRU_DONE = 0,
     MELSZONDRU_WRONG_IMAGE = 1,        /* the image is not 256 bytes */
-    MELSZONDRU_SHORT_BUFFER = 2,       /* the buffer is shorter than 48 bytes */
+    MELSZONDRU_SHORT_BUFFER = 2,       /* the buffer is shorter than MELSZONDRU_ROOM, 48 bytes */
     MELSZONDRU_NO_CONTACT = 3,         /* the contact is above 3 */
     MELSZONDRU_SHORT_PACKET = 4,       /* the packet is under 7 bytes */
     MELSZONDRU_LONG_PACKET = 5,        /* it is over 24 bytes */
@@ -81,57 +85,64 @@ enum { MELSZONDRU_BLACK = 0, MELSZONDRU_RED = 1, MELSZONDRU_GREEN = 2, MELSZONDR
 
 enum { MELSZONDRU_NORMAL = 0, MELSZONDRU_SETUP = 1, MELSZONDRU_FACTORY = 2 /* Factory Default */ };
 
-/* All that a switch holds. Its arrays are written by melszondru_start and by the events, and by nobody else; they may be copied
- * and put back as a whole. The password is in numbers[12] and numbers[13], and not among the registers: registers[2] and
+/* All that a switch holds, in 286 bytes. Its arrays are written by melszondru_start and by the events, and by nobody else; they may
+ * be copied and put back as a whole. The password is in numbers[6] and numbers[7], and not among the registers: registers[2] and
  * registers[3] are 0. */
 struct melszondru {
     uint16_t counters[MELSZONDRU_COUNTERS];
     uint8_t numbers[MELSZONDRU_NUMBERS];
+    uint8_t paddles[MELSZONDRU_BYTES];
     uint8_t registers[MELSZONDRU_REGISTERS];
 };
 
 /* What a start and an event are answered with.
  *
+ * lengths  of the packets sent, in order; 0 where there is none
+ * count    the packets sent, 0 to MELSZONDRU_PADDLES
  * number   MELSZONDRU_DONE, or the refusal
- * count    the packets sent, 0 to 2; first and second their lengths, 0 where there is none
  * level    the level in steps, 0 to 200 of a switch that was started; output what the output shows of it
  * colour   the lamp, MELSZONDRU_BLACK to MELSZONDRU_ORANGE
  * mode     MELSZONDRU_NORMAL to MELSZONDRU_FACTORY
  *
- * On a refusal (number above 0) nothing is sent, so count, first and second are 0; the switch is as it was, but for the lamp's
+ * On a refusal (number above 0) nothing is sent, so count and every length are 0; the switch is as it was, but for the lamp's
  * black blink that 4 to 8 start, and the rest of the answer shows it so. On 1 the rest is 0: a refused start shows no switch. */
 struct melszondru_answer {
-    uint8_t number;
+    uint8_t lengths[MELSZONDRU_PADDLES];
     uint8_t count;
-    uint8_t first;
-    uint8_t second;
+    uint8_t number;
     uint8_t level;
     uint8_t output;
     uint8_t colour;
     uint8_t mode;
 };
 
-/* What crosses to the archive has the bytes that it was built with: no padding. */
-typedef char melszondru_is_292_bytes[sizeof(struct melszondru) == 292 ? 1 : -1];
-typedef char melszondru_answer_is_8_bytes[sizeof(struct melszondru_answer) == 8 ? 1 : -1];
+/* Neither has padding: every byte of an answer was set, and every byte of a switch after a start. */
+typedef char melszondru_has_no_padding[sizeof(struct melszondru) == 2 * MELSZONDRU_COUNTERS + MELSZONDRU_NUMBERS
+                                               + MELSZONDRU_BYTES + MELSZONDRU_REGISTERS ? 1 : -1];
+typedef char melszondru_answer_has_no_padding[sizeof(struct melszondru_answer) == MELSZONDRU_PADDLES + 6 ? 1 : -1];
 
 /* The exported functions. They take a switch in parts: those below hand them the parts of one switch, and a caller in C or C++ has
- * no need of these. */
+ * no need of these. What is const is only read. */
 struct melszondru_answer melszondru_parts_start(const uint8_t *image, size_t length, uint16_t counters[MELSZONDRU_COUNTERS],
-                                                uint8_t numbers[MELSZONDRU_NUMBERS], uint8_t registers[MELSZONDRU_REGISTERS]);
-struct melszondru_answer melszondru_parts_press(uint16_t counters[MELSZONDRU_COUNTERS], uint8_t numbers[MELSZONDRU_NUMBERS],
-                                                uint8_t registers[MELSZONDRU_REGISTERS], uint8_t contact, uint8_t *out,
-                                                size_t room);
+                                                uint8_t numbers[MELSZONDRU_NUMBERS], uint8_t paddles[MELSZONDRU_BYTES],
+                                                uint8_t registers[MELSZONDRU_REGISTERS]);
+struct melszondru_answer melszondru_parts_press(const uint16_t counters[MELSZONDRU_COUNTERS],
+                                                const uint8_t numbers[MELSZONDRU_NUMBERS], uint8_t paddles[MELSZONDRU_BYTES],
+                                                const uint8_t registers[MELSZONDRU_REGISTERS], uint8_t contact,
+                                                const uint8_t *out, size_t room);
 struct melszondru_answer melszondru_parts_release(uint16_t counters[MELSZONDRU_COUNTERS], uint8_t numbers[MELSZONDRU_NUMBERS],
-                                                  uint8_t registers[MELSZONDRU_REGISTERS], uint8_t contact, uint8_t *out,
+                                                  uint8_t paddles[MELSZONDRU_BYTES],
+                                                  const uint8_t registers[MELSZONDRU_REGISTERS], uint8_t contact, uint8_t *out,
                                                   size_t room);
 struct melszondru_answer melszondru_parts_tick(uint16_t counters[MELSZONDRU_COUNTERS], uint8_t numbers[MELSZONDRU_NUMBERS],
-                                               uint8_t registers[MELSZONDRU_REGISTERS], uint8_t *out, size_t room);
+                                               uint8_t paddles[MELSZONDRU_BYTES], uint8_t registers[MELSZONDRU_REGISTERS],
+                                               uint8_t *out, size_t room);
 struct melszondru_answer melszondru_parts_receive(uint16_t counters[MELSZONDRU_COUNTERS], uint8_t numbers[MELSZONDRU_NUMBERS],
                                                   uint8_t registers[MELSZONDRU_REGISTERS], const uint8_t *packet, size_t length,
                                                   uint8_t *out, size_t room);
 struct melszondru_answer melszondru_parts_restart(uint16_t counters[MELSZONDRU_COUNTERS], uint8_t numbers[MELSZONDRU_NUMBERS],
-                                                  uint8_t registers[MELSZONDRU_REGISTERS], uint8_t *out, size_t room);
+                                                  uint8_t paddles[MELSZONDRU_BYTES], uint8_t registers[MELSZONDRU_REGISTERS],
+                                                  const uint8_t *out, size_t room);
 void melszondru_parts_image(const uint8_t numbers[MELSZONDRU_NUMBERS], const uint8_t registers[MELSZONDRU_REGISTERS],
                             uint8_t image[MELSZONDRU_REGISTERS]);
 
@@ -140,29 +151,31 @@ void melszondru_parts_image(const uint8_t numbers[MELSZONDRU_NUMBERS], const uin
  * byte is exactly as it was: a switch that ran in it is still there, and a struct that held none still holds none. */
 MELSZONDRU_INLINE struct melszondru_answer melszondru_start(struct melszondru *self, const uint8_t *image, size_t length)
 {
-    return melszondru_parts_start(image, length, self->counters, self->numbers, self->registers);
+    return melszondru_parts_start(image, length, self->counters, self->numbers, self->paddles, self->registers);
 }
 
-/* What an event leaves in its buffer, out and room: the packets sent, the first in front, the second from byte 24 on. Every other
- * byte keeps its value; a refusal changes none. melszondru_packet finds them. */
+/* What an event leaves in its buffer, out and room: the packets sent, in order, each at the front of a place of its own, and the
+ * places of MELSZONDRU_PLACE bytes one behind the other from byte 0 on. Every other byte keeps its value; a refusal changes none.
+ * melszondru_packet finds them. A press and a restart send nothing: of their buffer only the size counts. */
 
 /* A press edge of a contact: top or bottom, local or slave. Answers 0, 2 or 3; sends nothing. */
-MELSZONDRU_INLINE struct melszondru_answer melszondru_press(struct melszondru *self, uint8_t contact, uint8_t *out, size_t room)
+MELSZONDRU_INLINE struct melszondru_answer melszondru_press(struct melszondru *self, uint8_t contact, const uint8_t *out,
+                                                            size_t room)
 {
-    return melszondru_parts_press(self->counters, self->numbers, self->registers, contact, out, room);
+    return melszondru_parts_press(self->counters, self->numbers, self->paddles, self->registers, contact, out, room);
 }
 
 /* A release edge. Answers 0, 2 or 3; sends at most one packet. */
 MELSZONDRU_INLINE struct melszondru_answer melszondru_release(struct melszondru *self, uint8_t contact, uint8_t *out, size_t room)
 {
-    return melszondru_parts_release(self->counters, self->numbers, self->registers, contact, out, room);
+    return melszondru_parts_release(self->counters, self->numbers, self->paddles, self->registers, contact, out, room);
 }
 
-/* One tick, 1/240 second. Answers 0 or 2; sends at most two packets. Every 480th tick since the start or restart puts the percent
- * into register 0xF9. */
+/* One tick, 1/240 second. Answers 0 or 2; sends at most a packet for each paddle. Every 480th tick since the start or restart
+ * puts the percent into register 0xF9. */
 MELSZONDRU_INLINE struct melszondru_answer melszondru_tick(struct melszondru *self, uint8_t *out, size_t room)
 {
-    return melszondru_parts_tick(self->counters, self->numbers, self->registers, out, room);
+    return melszondru_parts_tick(self->counters, self->numbers, self->paddles, self->registers, out, room);
 }
 
 /* A received packet. Answers 0, 2 or 4 to 14; sends at most one packet, the reply. */
@@ -174,9 +187,9 @@ MELSZONDRU_INLINE struct melszondru_answer melszondru_receive(struct melszondru 
 
 /* A restart: the password stays, and the registers but for 0xFC, which counts one more, up to 255; all else is as after a start.
  * Answers 0 or 2; sends nothing. */
-MELSZONDRU_INLINE struct melszondru_answer melszondru_restart(struct melszondru *self, uint8_t *out, size_t room)
+MELSZONDRU_INLINE struct melszondru_answer melszondru_restart(struct melszondru *self, const uint8_t *out, size_t room)
 {
-    return melszondru_parts_restart(self->counters, self->numbers, self->registers, out, room);
+    return melszondru_parts_restart(self->counters, self->numbers, self->paddles, self->registers, out, room);
 }
 
 /* The 256 registers for the owner to save, with the password among them. Fills image; changes nothing else. */
@@ -185,16 +198,17 @@ MELSZONDRU_INLINE void melszondru_image(const struct melszondru *self, uint8_t i
     melszondru_parts_image(self->numbers, self->registers, image);
 }
 
-/* Packet n of an event, 0 or 1, in the buffer that the event was given, and its length; null and 0 where so many were not sent. */
+/* Packet n of an event, counted from 0, in the buffer that the event was given, and its length; null and 0 where so many were not
+ * sent. */
 MELSZONDRU_INLINE const uint8_t *melszondru_packet(const struct melszondru_answer *answer, const uint8_t *out, unsigned n,
                                                    uint8_t *length)
 {
-    if (n >= answer->count || n > 1) {
+    if (n >= answer->count || n >= MELSZONDRU_PADDLES) {
         *length = 0;
         return NULL;
     }
-    *length = n == 0 ? answer->first : answer->second;
-    return n == 0 ? out : out + MELSZONDRU_PLACE;
+    *length = answer->lengths[n];
+    return out + n * MELSZONDRU_PLACE;
 }
 
 #ifdef __cplusplus

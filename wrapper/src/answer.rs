@@ -1,9 +1,11 @@
 //! What an event is answered with, and the packets that it sent.
 
 pub use crate::boundary::Answer;
-use crate::{Colour, Mode, Refusal, PLACE};
+use crate::{Colour, Mode, Refusal, PADDLES, PLACE};
+use core::array::IntoIter;
 use core::fmt;
-use core::iter::FusedIterator;
+use core::iter::{FusedIterator, Take, Zip};
+use core::slice::Chunks;
 
 impl Answer {
     /// 0 where the event was done, otherwise the number of the refusal.
@@ -18,7 +20,7 @@ impl Answer {
     ///
     /// let (mut switch, answer) = Switch::start(&[0; 256])?;
     /// assert_eq!(answer.refusal(), None);
-    /// assert_eq!(switch.press(4, &mut [0; ROOM]).refusal(), Some(Refusal::NoContact));
+    /// assert_eq!(switch.press(4, &[0; ROOM]).refusal(), Some(Refusal::NoContact));
     /// # Ok::<(), Refusal>(())
     /// ```
     pub fn refusal(self) -> Option<Refusal> {
@@ -47,14 +49,14 @@ impl Answer {
         }
     }
 
-    /// How many packets were sent, 0 to 2.
+    /// How many packets were sent, 0 to [`PADDLES`].
     pub const fn count(self) -> usize {
         self.count as usize
     }
 
-    /// The lengths of the packets sent, 0 where there is none.
-    pub const fn lengths(self) -> [usize; 2] {
-        [self.first as usize, self.second as usize]
+    /// The lengths of the packets sent, in order; 0 where there is none.
+    pub fn lengths(self) -> [usize; PADDLES] {
+        self.lengths.map(usize::from)
     }
 
     /// The packets sent, in order. `out` is the buffer that the event was lent, as it left it; a packet that does not lie within
@@ -86,11 +88,11 @@ impl Answer {
     /// packets.next();
     /// ```
     pub fn packets(self, out: &[u8]) -> Packets<'_> {
-        let [first, second] = self.lengths();
-        Packets {
-            first: out.get(..first).filter(|_| self.count > 0),
-            second: out.get(PLACE..PLACE + second).filter(|_| self.count > 1),
-        }
+        let places = out.chunks(PLACE).zip(self.lengths());
+        let sent = places.clone().take(self.count());
+        let within = sent.take_while(|(place, length)| *length <= place.len());
+        let count = within.count();
+        Packets(places.take(count))
     }
 
     /// The level in steps, 0 to 200.
@@ -128,23 +130,21 @@ impl fmt::Debug for Answer {
     }
 }
 
-/// The packets that an event sent, none to two, as stretches of the buffer that it was lent: [`Answer::packets`] makes it.
+/// The packets that an event sent, at most one for each of the [`PADDLES`], as stretches of the buffer that it was lent:
+/// [`Answer::packets`] makes it.
 #[derive(Clone)]
-pub struct Packets<'a> {
-    first: Option<&'a [u8]>,
-    second: Option<&'a [u8]>,
-}
+pub struct Packets<'a>(Take<Zip<Chunks<'a, u8>, IntoIter<usize, PADDLES>>>);
 
 impl<'a> Iterator for Packets<'a> {
     type Item = &'a [u8];
 
     fn next(&mut self) -> Option<&'a [u8]> {
-        self.first.take().or_else(|| self.second.take())
+        let (place, length) = self.0.next()?;
+        place.get(..length)
     }
 
     fn size_hint(&self) -> (usize, Option<usize>) {
-        let left = usize::from(self.first.is_some()) + usize::from(self.second.is_some());
-        (left, Some(left))
+        self.0.size_hint()
     }
 }
 

@@ -1,9 +1,29 @@
-//! The functions and the answer of `include/melszondru.h`, declared for Rust by hand: the same names, and the same arguments in the
-//! same order. The switch's arrays and the image to fill are references here, where C has pointers. Nothing outside this file is
-//! unsafe.
+//! The sizes, the functions and the answer of `include/melszondru.h`, declared for Rust by hand: the same names, and the same
+//! arguments in the same order. The switch's arrays and the image to fill are references here, where C has pointers; an array that
+//! is only read is a shared one. Nothing outside this file is unsafe.
 
 #![allow(unsafe_code)]
 #![deny(clippy::undocumented_unsafe_blocks)]
+
+/// How many paddles a switch has: the top one and the bottom one. An event sends at most a packet for each.
+pub const PADDLES: usize = 2;
+
+/// The bytes of one place in the buffer, and of the longest packet. The packets sent stand in order, each at the front of a place
+/// of its own.
+pub const PLACE: usize = 24;
+
+/// The least buffer that an event takes: a place of [`PLACE`] bytes for each of the [`PADDLES`].
+pub const ROOM: usize = PADDLES * PLACE;
+
+const COUNTERS: usize = 7;
+const NUMBERS: usize = 8;
+const BYTES: usize = 4 * PADDLES;
+const REGISTERS: usize = 256;
+
+pub type Counters = [u16; COUNTERS];
+pub type Numbers = [u8; NUMBERS];
+pub type Paddles = [u8; BYTES];
+pub type Registers = [u8; REGISTERS];
 
 /// What a start or an event is answered with.
 ///
@@ -21,19 +41,14 @@
 #[repr(C)]
 #[derive(Clone, Copy, PartialEq, Eq, Hash)]
 pub struct Answer {
-    pub(crate) number: u8,
+    pub(crate) lengths: [u8; PADDLES],
     pub(crate) count: u8,
-    pub(crate) first: u8,
-    pub(crate) second: u8,
+    pub(crate) number: u8,
     pub(crate) level: u8,
     pub(crate) output: u8,
     pub(crate) colour: u8,
     pub(crate) mode: u8,
 }
-
-pub type Counters = [u16; 11];
-pub type Numbers = [u8; 14];
-pub type Registers = [u8; 256];
 
 extern "C" {
     pub fn melszondru_parts_start(
@@ -41,20 +56,23 @@ extern "C" {
         length: usize,
         counters: &mut Counters,
         numbers: &mut Numbers,
+        paddles: &mut Paddles,
         registers: &mut Registers,
     ) -> Answer;
     pub fn melszondru_parts_press(
-        counters: &mut Counters,
-        numbers: &mut Numbers,
-        registers: &mut Registers,
+        counters: &Counters,
+        numbers: &Numbers,
+        paddles: &mut Paddles,
+        registers: &Registers,
         contact: u8,
-        out: *mut u8,
+        out: *const u8,
         room: usize,
     ) -> Answer;
     pub fn melszondru_parts_release(
         counters: &mut Counters,
         numbers: &mut Numbers,
-        registers: &mut Registers,
+        paddles: &mut Paddles,
+        registers: &Registers,
         contact: u8,
         out: *mut u8,
         room: usize,
@@ -62,6 +80,7 @@ extern "C" {
     pub fn melszondru_parts_tick(
         counters: &mut Counters,
         numbers: &mut Numbers,
+        paddles: &mut Paddles,
         registers: &mut Registers,
         out: *mut u8,
         room: usize,
@@ -78,54 +97,59 @@ extern "C" {
     pub fn melszondru_parts_restart(
         counters: &mut Counters,
         numbers: &mut Numbers,
+        paddles: &mut Paddles,
         registers: &mut Registers,
-        out: *mut u8,
+        out: *const u8,
         room: usize,
     ) -> Answer;
     pub fn melszondru_parts_image(numbers: &Numbers, registers: &Registers, image: &mut Registers);
 }
 
-/// The three arrays of one switch.
+/// The arrays of one switch.
 #[derive(Clone)]
 #[cfg_attr(test, derive(PartialEq, Eq, Debug))]
 pub struct Arrays {
     pub counters: Counters,
     pub numbers: Numbers,
+    pub paddles: Paddles,
     pub registers: Registers,
 }
 
 impl Arrays {
     pub const CLEAR: Arrays = Arrays {
-        counters: [0; 11],
-        numbers: [0; 14],
-        registers: [0; 256],
+        counters: [0; COUNTERS],
+        numbers: [0; NUMBERS],
+        paddles: [0; BYTES],
+        registers: [0; REGISTERS],
     };
 
     pub fn start(&mut self, image: &[u8]) -> Answer {
-        // SAFETY: pointer and length are those of the borrowed `image`; the arrays are three fields of the exclusively borrowed
-        // `self`, so nothing overlaps.
+        // SAFETY: pointer and length are those of the borrowed `image`; the arrays are fields of the exclusively borrowed `self`,
+        // each another one, so nothing overlaps.
         unsafe {
             melszondru_parts_start(
                 image.as_ptr(),
                 image.len(),
                 &mut self.counters,
                 &mut self.numbers,
+                &mut self.paddles,
                 &mut self.registers,
             )
         }
     }
 
     #[inline]
-    pub fn press(&mut self, contact: u8, out: &mut [u8]) -> Answer {
-        // SAFETY: pointer and length are those of `out`; it and `self`, of which the arrays are three fields, are borrowed
-        // exclusively, so nothing overlaps.
+    pub fn press(&mut self, contact: u8, out: &[u8]) -> Answer {
+        // SAFETY: pointer and length are those of the borrowed `out`, which is only read; the arrays are fields of the exclusively
+        // borrowed `self`, each another one, so nothing overlaps.
         unsafe {
             melszondru_parts_press(
-                &mut self.counters,
-                &mut self.numbers,
-                &mut self.registers,
+                &self.counters,
+                &self.numbers,
+                &mut self.paddles,
+                &self.registers,
                 contact,
-                out.as_mut_ptr(),
+                out.as_ptr(),
                 out.len(),
             )
         }
@@ -133,12 +157,14 @@ impl Arrays {
 
     #[inline]
     pub fn release(&mut self, contact: u8, out: &mut [u8]) -> Answer {
-        // SAFETY: as of `press`.
+        // SAFETY: pointer and length are those of `out`; it and `self`, of which the arrays are fields, each another one, are
+        // borrowed exclusively, so nothing overlaps.
         unsafe {
             melszondru_parts_release(
                 &mut self.counters,
                 &mut self.numbers,
-                &mut self.registers,
+                &mut self.paddles,
+                &self.registers,
                 contact,
                 out.as_mut_ptr(),
                 out.len(),
@@ -148,11 +174,12 @@ impl Arrays {
 
     #[inline]
     pub fn tick(&mut self, out: &mut [u8]) -> Answer {
-        // SAFETY: as of `press`.
+        // SAFETY: as of `release`.
         unsafe {
             melszondru_parts_tick(
                 &mut self.counters,
                 &mut self.numbers,
+                &mut self.paddles,
                 &mut self.registers,
                 out.as_mut_ptr(),
                 out.len(),
@@ -162,7 +189,7 @@ impl Arrays {
 
     #[inline]
     pub fn receive(&mut self, packet: &[u8], out: &mut [u8]) -> Answer {
-        // SAFETY: as of `press`; the other pointer and length are those of `packet`, which is borrowed while `out` and `self` are
+        // SAFETY: as of `release`; the other pointer and length are those of `packet`, which is borrowed while `out` and `self` are
         // borrowed exclusively, so it overlaps neither.
         unsafe {
             melszondru_parts_receive(
@@ -178,21 +205,22 @@ impl Arrays {
     }
 
     #[inline]
-    pub fn restart(&mut self, out: &mut [u8]) -> Answer {
+    pub fn restart(&mut self, out: &[u8]) -> Answer {
         // SAFETY: as of `press`.
         unsafe {
             melszondru_parts_restart(
                 &mut self.counters,
                 &mut self.numbers,
+                &mut self.paddles,
                 &mut self.registers,
-                out.as_mut_ptr(),
+                out.as_ptr(),
                 out.len(),
             )
         }
     }
 
     pub fn image(&self) -> Registers {
-        let mut image = [0; 256];
+        let mut image = [0; REGISTERS];
         // SAFETY: every argument is a reference to an array of its size, and `image` is no part of `self`.
         unsafe { melszondru_parts_image(&self.numbers, &self.registers, &mut image) };
         image
@@ -216,11 +244,10 @@ mod tests {
         let mut arrays = Arrays::CLEAR;
         assert_eq!(arrays.start(&image()[..256]).number, 0);
         let fades = [0x09, 0x00, 0x01, 0x05, 0x09, 0x22, 0x32, 0x05, 0x8F];
-        assert_eq!(arrays.receive(&fades, &mut [0; 48]).number, 0);
-        let Arrays {
-            counters, numbers, ..
-        } = &arrays;
-        assert!(counters[5] != 0 && counters[10] != 0 && numbers[11] != 0);
+        assert_eq!(arrays.receive(&fades, &mut [0; ROOM]).number, 0);
+        assert_eq!(arrays.press(0, &[0; ROOM]).number, 0);
+        assert!(arrays.counters[5..].iter().all(|counter| *counter != 0));
+        assert!(arrays.numbers[5] != 0 && arrays.paddles[0] != 0);
         arrays
     }
 
@@ -238,9 +265,10 @@ mod tests {
     fn a_start_hangs_on_the_image_alone() {
         let mut zeros = Arrays::CLEAR;
         let mut ones = Arrays {
-            counters: [0xFFFF; 11],
-            numbers: [0xFF; 14],
-            registers: [0xFF; 256],
+            counters: [0xFFFF; COUNTERS],
+            numbers: [0xFF; NUMBERS],
+            paddles: [0xFF; BYTES],
+            registers: [0xFF; REGISTERS],
         };
         let mut old = running();
         let answer = zeros.start(&image()[..256]);
@@ -250,11 +278,33 @@ mod tests {
         assert_eq!(old, zeros);
     }
 
+    /// A packet has no business with the paddles, nor a press with the rest. Whatever bytes stand there, they stay.
+    #[test]
+    fn what_is_not_lent_or_only_read_stays() {
+        let mut arrays = running();
+        arrays.paddles = [0xEE; BYTES];
+        let fade_stop = [0x07, 0x00, 0x01, 0x05, 0x09, 0x24, 0xC6];
+        assert_eq!(arrays.receive(&fade_stop, &mut [0; ROOM]).number, 0);
+        assert_eq!(arrays.paddles, [0xEE; BYTES]);
+        let mut before = arrays.clone();
+        assert_eq!(arrays.press(0, &[0; ROOM]).number, 0);
+        assert_ne!(arrays, before);
+        before.paddles = arrays.paddles;
+        assert_eq!(arrays, before);
+    }
+
+    /// Neither has a byte that nobody set.
+    #[test]
+    fn there_is_no_padding() {
+        assert_eq!(size_of::<Arrays>(), 286);
+        assert_eq!(size_of::<Answer>(), 8);
+    }
+
     #[test]
     fn the_password_is_in_the_numbers_and_not_in_the_registers() {
         let mut arrays = Arrays::CLEAR;
         arrays.start(&image()[..256]);
-        assert_eq!(arrays.numbers[12..], [0x12, 0x34]);
+        assert_eq!(arrays.numbers[6..], [0x12, 0x34]);
         assert_eq!(arrays.registers[..4], [1, 5, 0, 0]);
         assert_eq!(arrays.image()[..4], [1, 5, 0x12, 0x34]);
     }

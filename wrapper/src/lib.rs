@@ -47,18 +47,13 @@ mod live;
 mod refusal;
 
 pub use answer::{Answer, Packets};
+pub use boundary::{PADDLES, PLACE, ROOM};
 pub use kinds::{Colour, Mode, NoSuchNumber};
 pub use refusal::Refusal;
 
 use boundary::Arrays;
 use core::fmt;
 use live::Live;
-
-/// The least buffer that an event takes: two places of [`PLACE`] bytes.
-pub const ROOM: usize = 48;
-
-/// The bytes of one place in the buffer. The first packet sent begins at byte 0, the second at byte `PLACE`.
-pub const PLACE: usize = 24;
 
 /// One switch: its registers, its password, and all that runs in it.
 ///
@@ -83,8 +78,9 @@ pub const PLACE: usize = 24;
 #[derive(Clone)]
 pub struct Switch(Arrays);
 
-/// Every event is lent a buffer `out`. Packets sent are put into it, the first in front and the second from byte [`PLACE`] on;
-/// every other byte keeps its value, and a refusal changes none.
+/// Every event is lent a buffer `out` of at least [`ROOM`] bytes. Packets sent are put into it in order, each at the front of a
+/// place of [`PLACE`] bytes; every other byte keeps its value, and a refusal changes none. A press and a restart send nothing: they
+/// only read how long the buffer is.
 impl Switch {
     /// A switch from a copy of the image, and its first answer. An image that is not 256 bytes is
     /// [`WrongImage`](Refusal::WrongImage); there is no other refusal.
@@ -114,7 +110,7 @@ impl Switch {
     /// image[0x7A..0x7C].copy_from_slice(&[100, 0]); // one tap of the top paddle: 100 percent, at once
     /// let (mut switch, _) = Switch::start(&image)?;
     /// let mut out = [0; ROOM];
-    /// switch.press(0, &mut out).done()?;
+    /// switch.press(0, &out).done()?;
     /// for _ in 0..60 {
     ///     switch.tick(&mut out).done()?;
     /// }
@@ -126,7 +122,7 @@ impl Switch {
     /// # Ok::<(), Refusal>(())
     /// ```
     #[inline]
-    pub fn press(&mut self, contact: u8, out: &mut [u8]) -> Answer {
+    pub fn press(&mut self, contact: u8, out: &[u8]) -> Answer {
         self.0.press(contact, out)
     }
 
@@ -148,7 +144,7 @@ impl Switch {
         self.0.release(contact, out)
     }
 
-    /// One tick, 1/240 second. Sends at most two packets. Refused by 2.
+    /// One tick, 1/240 second. Sends at most a packet for each paddle. Refused by 2.
     ///
     /// ```
     /// use melszondru::{Refusal, Switch, ROOM};
@@ -199,12 +195,12 @@ impl Switch {
     ///
     /// let (mut switch, _) = Switch::start(&[0; 256])?;
     /// let saved = switch.image();
-    /// switch.restart(&mut [0; ROOM]).done()?;
+    /// switch.restart(&[0; ROOM]).done()?;
     /// assert_eq!(switch, Switch::start(&saved)?.0);
     /// # Ok::<(), Refusal>(())
     /// ```
     #[inline]
-    pub fn restart(&mut self, out: &mut [u8]) -> Answer {
+    pub fn restart(&mut self, out: &[u8]) -> Answer {
         self.0.restart(out)
     }
 
@@ -224,7 +220,7 @@ impl Switch {
     }
 
     fn live(&self) -> Live {
-        Live::read(&self.0.counters, &self.0.numbers)
+        Live::read(&self.0.counters, &self.0.numbers, &self.0.paddles)
     }
 }
 
@@ -240,7 +236,6 @@ impl Eq for Switch {}
 impl fmt::Debug for Switch {
     fn fmt(&self, f: &mut fmt::Formatter<'_>) -> fmt::Result {
         let live = self.live();
-        let [top, bottom] = &live.paddles;
         f.debug_struct("Switch")
             .field("mode", &live.mode)
             .field("level", &live.level)
@@ -248,8 +243,7 @@ impl fmt::Debug for Switch {
             .field("motion", &live.motion)
             .field("lamp", &live.lamp)
             .field("save", &live.save)
-            .field("top", top)
-            .field("bottom", bottom)
+            .field("paddles", &live.paddles)
             .field("password", &live.password)
             .finish_non_exhaustive()
     }

@@ -1,8 +1,8 @@
-//! What the counters and the numbers of a switch stand for: `liveFrom` of crates/host/specs/Mirror.antt, part by part. Bytes that
-//! mean nothing are not read.
+//! What the counters, the numbers and the paddles' bytes of a switch stand for: `coreOf`, `passwordOf` and `paddlesOf` of
+//! crates/state/specs, part by part. Bytes and bits that mean nothing are not read.
 
-use crate::boundary::{Counters, Numbers};
-use crate::{Colour, Mode};
+use crate::boundary::{Counters, Numbers, Paddles};
+use crate::{Colour, Mode, PADDLES};
 use core::fmt;
 
 /// All that a switch holds besides its registers.
@@ -15,7 +15,7 @@ pub(crate) struct Live {
     pub(crate) motion: Motion,
     pub(crate) lamp: Lamp,
     pub(crate) save: u16,
-    pub(crate) paddles: [Paddle; 2],
+    pub(crate) paddles: [Paddle; PADDLES],
 }
 
 #[derive(PartialEq, Eq)]
@@ -48,36 +48,41 @@ pub(crate) struct Lamp {
 pub(crate) struct Paddle {
     local: bool,
     slave: bool,
-    hold: u16,
-    gap: u16,
+    hold: u8,
+    gap: u8,
     taps: u8,
 }
 
-// Where each counter and each number stands. Of the paddles the top's comes first, and the bottom's after it.
+// Where each counter and each number stands.
 pub(crate) const VERSION: usize = 0;
 pub(crate) const PHASE: usize = 1;
 pub(crate) const BLINK: usize = 2;
 pub(crate) const FLASH: usize = 3;
 pub(crate) const SAVE: usize = 4;
 pub(crate) const LEFT: usize = 5;
-pub(crate) const HOLD: usize = 6;
-pub(crate) const GAP: usize = 8;
-pub(crate) const PERIOD: usize = 10;
+pub(crate) const PERIOD: usize = 6;
 
-pub(crate) const LOCAL: usize = 0;
-pub(crate) const SLAVE: usize = 2;
-pub(crate) const TAPS: usize = 4;
-pub(crate) const LEVEL: usize = 6;
-pub(crate) const KIND: usize = 7;
-pub(crate) const MODE: usize = 8;
-pub(crate) const HUE: usize = 9;
-pub(crate) const LAST: usize = 10;
-pub(crate) const TARGET: usize = 11;
-pub(crate) const FIRST: usize = 12;
-pub(crate) const SECOND: usize = 13;
+pub(crate) const LEVEL: usize = 0;
+pub(crate) const KIND: usize = 1;
+pub(crate) const MODE: usize = 2;
+pub(crate) const HUE: usize = 3;
+pub(crate) const LAST: usize = 4;
+pub(crate) const TARGET: usize = 5;
+pub(crate) const FIRST: usize = 6;
+pub(crate) const SECOND: usize = 7;
+
+// Where the first paddle's byte of each kind stands; those of the others follow it.
+pub(crate) const CONTACTS: usize = 0;
+pub(crate) const TAPS: usize = PADDLES;
+pub(crate) const HOLD: usize = 2 * PADDLES;
+pub(crate) const GAP: usize = 3 * PADDLES;
+
+// The bits of contacts that say something.
+const LOCAL: u8 = 1;
+const SLAVE: u8 = 2;
 
 impl Live {
-    pub(crate) fn read(counters: &Counters, numbers: &Numbers) -> Live {
+    pub(crate) fn read(counters: &Counters, numbers: &Numbers, paddles: &Paddles) -> Live {
         Live {
             password: Password(numbers[FIRST], numbers[SECOND]),
             mode: Mode::read(numbers[MODE]),
@@ -86,7 +91,7 @@ impl Live {
             motion: Motion::read(counters, numbers),
             lamp: Lamp::read(counters, numbers),
             save: counters[SAVE],
-            paddles: [0, 1].map(|paddle| Paddle::read(paddle, counters, numbers)),
+            paddles: core::array::from_fn(|paddle| Paddle::read(paddle, paddles)),
         }
     }
 }
@@ -119,13 +124,14 @@ impl Lamp {
 }
 
 impl Paddle {
-    fn read(paddle: usize, counters: &Counters, numbers: &Numbers) -> Paddle {
+    fn read(paddle: usize, paddles: &Paddles) -> Paddle {
+        let contacts = paddles[CONTACTS + paddle];
         Paddle {
-            local: numbers[LOCAL + paddle] != 0,
-            slave: numbers[SLAVE + paddle] != 0,
-            hold: counters[HOLD + paddle],
-            gap: counters[GAP + paddle],
-            taps: numbers[TAPS + paddle],
+            local: contacts & LOCAL != 0,
+            slave: contacts & SLAVE != 0,
+            hold: paddles[HOLD + paddle],
+            gap: paddles[GAP + paddle],
+            taps: paddles[TAPS + paddle],
         }
     }
 }
@@ -134,7 +140,7 @@ impl Paddle {
 mod tests {
     use super::*;
     use crate::{Switch, ROOM};
-    use std::vec::Vec;
+    use std::{format, vec::Vec};
 
     const IDLE: u8 = 0;
     const FADING: u8 = 1;
@@ -182,6 +188,14 @@ mod tests {
                 let equal = numbers.contains(&place);
                 assert_eq!(other == switch, equal, "kind {kind}, number {place}");
             }
+            for place in 0..switch.0.paddles.len() {
+                for bit in 0..8 {
+                    let mut other = switch.clone();
+                    other.0.paddles[place] ^= 1 << bit;
+                    let equal = place < TAPS && 1 << bit > LOCAL | SLAVE;
+                    assert_eq!(other == switch, equal, "paddles' byte {place}, bit {bit}");
+                }
+            }
             for place in 0..switch.0.registers.len() {
                 let mut other = switch.clone();
                 other.0.registers[place] ^= 0x10;
@@ -190,12 +204,12 @@ mod tests {
         }
     }
 
-    /// The numbers of `place` that stand for one and the same have the same `class`, and no others.
-    fn classes(place: usize, class: impl Fn(u8) -> u8) {
+    /// The bytes of one place that stand for one and the same have the same `class`, and no others.
+    fn classes(place: impl Fn(&mut Switch) -> &mut u8, class: impl Fn(u8) -> u8, what: &str) {
         let holding: Vec<Switch> = (0..=255)
-            .map(|number| {
+            .map(|byte| {
                 let mut switch = moving(FADING);
-                switch.0.numbers[place] = number;
+                *place(&mut switch) = byte;
                 switch
             })
             .collect();
@@ -203,31 +217,44 @@ mod tests {
             for other in 0..=255u8 {
                 let equal = holding[usize::from(one)] == holding[usize::from(other)];
                 let expected = class(one) == class(other);
-                assert_eq!(equal, expected, "number {place}: {one} and {other}");
+                assert_eq!(equal, expected, "{what}: {one} and {other}");
             }
         }
     }
 
     #[test]
     fn a_number_out_of_range_is_as_decision_91_reads_it() {
-        for contact in [LOCAL, LOCAL + 1, SLAVE, SLAVE + 1] {
-            classes(contact, |number| number.min(1));
+        let number = |place: usize, class: fn(u8) -> u8| {
+            let what = format!("number {place}");
+            classes(|switch| &mut switch.0.numbers[place], class, &what);
+        };
+        number(MODE, |mode| if mode > 2 { 0 } else { mode });
+        number(KIND, |kind| if kind > 2 { 0 } else { kind });
+        number(HUE, |hue| if hue > 3 { 0 } else { hue });
+        for plain in [LEVEL, LAST, TARGET, FIRST, SECOND] {
+            number(plain, |number| number);
         }
-        let up_to = |most| move |number| if number > most { 0 } else { number };
-        classes(MODE, up_to(2));
-        classes(KIND, up_to(2));
-        classes(HUE, up_to(3));
-        for plain in [TAPS, TAPS + 1, LEVEL, LAST, TARGET, FIRST, SECOND] {
-            classes(plain, |number| number);
+    }
+
+    #[test]
+    fn of_contacts_the_lowest_two_bits_count_and_of_a_paddles_other_bytes_all() {
+        let byte = |place: usize, class: fn(u8) -> u8| {
+            let what = format!("paddles' byte {place}");
+            classes(|switch| &mut switch.0.paddles[place], class, &what);
+        };
+        for paddle in 0..PADDLES {
+            byte(CONTACTS + paddle, |contacts| contacts % 4);
+            for plain in [TAPS, HOLD, GAP] {
+                byte(plain + paddle, |byte| byte);
+            }
         }
     }
 
     /// A switch that is equal to this one and has another number in every place where that can be.
     fn twin(switch: &Switch) -> Switch {
         let mut twin = switch.clone();
-        for contact in LOCAL..TAPS {
-            let number = &mut twin.0.numbers[contact];
-            *number = if *number == 0 { 0 } else { 0xEE };
+        for contacts in &mut twin.0.paddles[CONTACTS..TAPS] {
+            *contacts ^= !(LOCAL | SLAVE);
         }
         for (place, most) in [(MODE, 2), (HUE, 3), (KIND, 2)] {
             let number = &mut twin.0.numbers[place];
@@ -255,23 +282,22 @@ mod tests {
             &[0x07, 0x00, 0x01, 0x05, 0x09, 0x24, 0xC6],
             &[0x09, 0x00, 0x01, 0x05, 0x09, 0x03, 0x12, 0x34, 0x9F],
         ];
-        let mut differed = 0;
         for event in 0..4000usize {
             let mut other = twin(&one);
             assert_eq!(other, one, "event {event}");
-            differed += usize::from(other.0 != one.0);
+            assert_ne!(other.0, one.0, "event {event}");
             let (mut left, mut right) = ([0xAA; ROOM], [0xAA; ROOM]);
             let play = |switch: &mut Switch, out: &mut [u8]| match (event % 97, event / 97 % 7) {
                 (0, turn) if turn < 6 => switch.receive(packets[turn], out),
                 (0, _) => switch.restart(out),
                 (9, turn) => switch.press(turn as u8 % 4, out),
-                (80, turn) => switch.release(turn as u8 % 4, out),
+                // In a round after a tap, in the next one after Hold, when the paddle's other contact is down.
+                (80, turn) => switch.release((turn + event / 679 % 2 * 2) as u8 % 4, out),
                 _ => switch.tick(out),
             };
             assert_eq!(play(&mut one, &mut left), play(&mut other, &mut right));
             assert_eq!((&one, left), (&other, right), "event {event}");
             assert_eq!(one.image(), other.image());
         }
-        assert!(differed > 3000, "{differed}");
     }
 }

@@ -76,7 +76,7 @@ fn an_answer_has_the_level_and_the_output() {
 fn tapped(switch: &mut Switch, taps: usize) -> Mode {
     let mut out = [FILL; ROOM];
     for _ in 0..taps {
-        switch.press(0, &mut out);
+        switch.press(0, &out);
         for _ in 0..60 {
             switch.tick(&mut out);
         }

@@ -3,7 +3,7 @@
 mod common;
 
 use common::{image, packet, started, FILL};
-use melszondru::{Answer, PLACE, ROOM};
+use melszondru::{Answer, PADDLES, PLACE, ROOM};
 
 /// Both paddles tapped once together: two packets at one tick. The top tells link 10 the percent, the bottom sends link 11 the
 /// first entry of the command table.
@@ -34,7 +34,7 @@ fn both(out: &mut [u8]) -> Answer {
 fn two_packets_are_two_slices_in_their_order() {
     let mut out = [0; ROOM + 2];
     let answer = both(&mut out);
-    assert_eq!((answer.count(), answer.lengths()), (2, [8, 7]));
+    assert_eq!((answer.count(), answer.lengths()), (PADDLES, [8, 7]));
     let sent: Vec<&[u8]> = answer.packets(&out).collect();
     assert_eq!(
         sent,
@@ -69,6 +69,17 @@ fn nothing_sent_is_no_packet() {
     let answer = started(&image()).tick(&mut out);
     assert_eq!(answer.count(), 0);
     assert_eq!(answer.packets(&out).next(), None);
+}
+
+/// A press and a restart only read the buffer: packets can be taken from it meanwhile.
+#[test]
+fn what_sends_nothing_leaves_the_packets_to_be_taken() {
+    let mut out = [0; ROOM];
+    let packets = both(&mut out).packets(&out);
+    let mut other = started(&image());
+    other.press(0, &out).done().unwrap();
+    other.restart(&out).done().unwrap();
+    assert_eq!(packets.len(), PADDLES);
 }
 
 /// A buffer that the event was not lent gives no packet from outside it, whatever its length.

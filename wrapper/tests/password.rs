@@ -16,7 +16,7 @@ fn switches(password: [u8; 2]) -> Vec<Switch> {
     let [first, second] = password;
     let open = told(locked(password), &[&[0x03, first, second]]);
     let mut down = ticked(locked(password), 500);
-    down.press(2, &mut [FILL; ROOM]);
+    down.press(2, &[FILL; ROOM]);
     vec![
         locked(password),
         told(locked(password), &[&[0x22, 100, 5]]),
@@ -102,7 +102,7 @@ fn the_text_shows_what_runs() {
     let all = switches([0x12, 0x34]);
     assert!(text(&all[1]).contains("motion: Fading { target: 200, period: 8, left: 7 }"));
     assert!(text(&all[2]).contains("motion: Blinking { period: 36, left: 35 }"));
-    assert!(text(&all[3]).contains("top: Paddle { local: false, slave: true,"));
+    assert!(text(&all[3]).contains("paddles: [Paddle { local: false, slave: true,"));
     assert!(text(&all[4]).contains("mode: Setup"));
 }
 

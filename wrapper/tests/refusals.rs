@@ -3,7 +3,7 @@
 mod common;
 
 use common::{direct, image, packet, started, told, FILL};
-use melszondru::{Answer, NoSuchNumber, Refusal, Switch, ROOM};
+use melszondru::{Answer, NoSuchNumber, Refusal, Switch, PADDLES, ROOM};
 
 /// What the event is refused by, after it is seen that nothing else was done.
 fn refused(switch: &Switch, event: impl Fn(&mut Switch, &mut [u8]) -> Answer) -> Refusal {
@@ -13,7 +13,7 @@ fn refused(switch: &Switch, event: impl Fn(&mut Switch, &mut [u8]) -> Answer) ->
     let refusal = answer.refusal().expect("a refusal");
     assert_eq!(answer.done(), Err(refusal));
     assert_eq!(answer.number(), refusal.number());
-    assert_eq!((answer.count(), answer.lengths()), (0, [0, 0]));
+    assert_eq!((answer.count(), answer.lengths()), (0, [0; PADDLES]));
     assert_eq!(answer.packets(&out).len(), 0);
     assert_eq!(out, [FILL; ROOM]);
     assert_eq!(after.image(), switch.image());
@@ -32,11 +32,11 @@ fn a_short_buffer_is_2_whatever_the_event() {
     for room in [0, 1, ROOM - 1] {
         for event in 0..5 {
             let refusal = refused(&switch, |switch, out| match event {
-                0 => switch.press(0, &mut out[..room]),
+                0 => switch.press(0, &out[..room]),
                 1 => switch.release(0, &mut out[..room]),
                 2 => switch.tick(&mut out[..room]),
                 3 => switch.receive(&direct(&[0x30]), &mut out[..room]),
-                _ => switch.restart(&mut out[..room]),
+                _ => switch.restart(&out[..room]),
             });
             assert_eq!(refusal, Refusal::ShortBuffer);
         }

@@ -1,17 +1,18 @@
 -- What callers use of works and gestures: what they write, which mode they leave, and that the level stays within its range.
-use mathlib.Core.Path.{_≡_, refl, _∙_}
+use mathlib.Core.Path.{_≡_, refl, ap, _∙_}
 use mathlib.Core.List.{List}
-use Prim.Native.Nat.{ℕ, _≤_}
+use mathlib.Core.Bool.{true}
+use Prim.Native.Nat.{ℕ, _≤_, _<_, _%_}
 use native.Mathlib.Omega.{arith}
 use lib.Dec.{eqb, ltb}
-use borrow.Author.Tests.{eqb-true}
+use borrow.Author.Tests.{eqb-true, lt-ltb}
 use Rattle.words.proofs.Laws.{both, cases}
 use Rattle.units.specs.Units.{percent}
 use Rattle.units.proofs.Laws.{step-within}
 use Rattle.units.specs.declared.Step.{Step}
 use Rattle.vault.specs.declared.Mode.{Mode}
 use Rattle.vault.specs.declared.Mode.the-variants.{Normal, Setup, Factory}
-use Rattle.dimmer.specs.Dimmer.{Within, optionsOf}
+use Rattle.dimmer.specs.Dimmer.{Within, optionsOf, stopped}
 use Rattle.dimmer.proofs.Laws.{fresh-within, set-within, stop-within, blink-within, tick-within}
 use Rattle.dimmer.specs.declared.Dimmer.{Dimmer}
 use Rattle.judge.specs.declared.Work.{Work}
@@ -20,16 +21,28 @@ use Rattle.judge.specs.declared.Drive.{Drive}
 use Rattle.judge.specs.declared.Drive.the-variants as drive
 use Rattle.paddle.specs.declared.Gesture.{Gesture}
 use Rattle.paddle.specs.declared.Gesture.the-variants.{Nothing, Taps, Hold, Release}
-use Rattle.registers.specs.Places.{dimmingIn, singleIn, doubleIn, savedIn, componentIn}
-use Rattle.registers.specs.declared.write.Write.the-variants.{Nothing as Unwritten}
+use Rattle.model.specs.Model.{contactCount, drives, paddleOf}
+use Rattle.registers.specs.Places.{dimmingIn, savedIn, componentIn}
+use Rattle.registers.specs.declared.places.Counter.the-variants.{Setups}
+use Rattle.registers.specs.declared.write.Write.{Write}
+use Rattle.registers.specs.declared.write.Write.the-variants.{Count, Factory as FactoryValues, Nothing as Unwritten}
 use Rattle.acts.specs.Core
-use Rattle.acts.specs.Core.{unwritten, startLevel, started, aged, setBy, setting, stopping, entering, opened}
+use Rattle.acts.specs.Core.{effect, unwritten, startLevel, started, aged, setBy, loaded, setting, halted, stopping, entering, opened}
 use Rattle.acts.specs.Orders.{driven, performed}
 use Rattle.acts.specs.Gestures
 use Rattle.acts.specs.Gestures.{far, byAction, holding, tapsInNormal, tapsInSetup, tapsInFactory, actedInNormal, actedInSetup, actedInFactory, actedIn, acted}
 use Rattle.acts.specs.declared.Core.{Core}
 use Rattle.acts.specs.declared.Effect.{Effect}
 use Rattle.acts.specs.Code.{workWrites, workLeads}
+
+-- The paddle of every contact of this model drives the load, and a paddle that does stops what runs.
+pub contact-drives : (contact : ℕ) → contact < contactCount → drives (paddleOf contact) ≡ true
+unfolding drives paddleOf
+contact-drives contact known = lt-ltb (contact % 2) 2 (omega arith)
+
+pub driver-halts : (paddle : ℕ) (d : Dimmer) → drives paddle ≡ true → halted paddle d ≡ stopped d
+unfolding halted loaded
+driver-halts paddle d drive = rw drive
 
 -- No gesture, no act.
 nothing-in : (mode : Mode) (all : List ℕ) (paddle : ℕ) (c : Core) → actedIn mode all paddle Nothing c ≡ unwritten c
@@ -167,9 +180,13 @@ set-ranged : (all : List ℕ) (level rate : ℕ) (d : Dimmer) → Within d → W
 unfolding setBy
 set-ranged all level rate d = set-within d level rate (optionsOf (dimmingIn all))
 
-setting-ranged : (all : List ℕ) (level rate : ℕ) (c : Core) → Ranged c → Ranged (setting all level rate c)
-unfolding setting
-setting-ranged all level rate c = set-ranged all level rate (c .dimmer)
+setting-ranged : (all : List ℕ) (paddle level rate : ℕ) (c : Core) → Ranged c → Ranged (setting all paddle level rate c)
+unfolding setting loaded
+setting-ranged all paddle level rate c w = both Within (drives paddle) (set-ranged all level rate (c .dimmer) w) w
+
+stopping-ranged : (paddle : ℕ) (c : Core) → Ranged c → Ranged (stopping paddle c)
+unfolding stopping halted loaded
+stopping-ranged paddle c w = both Within (drives paddle) (stop-within (c .dimmer) w) w
 
 drive-ranged : (all : List ℕ) (o : Drive) (d : Dimmer) → Within d → Within (driven all o d)
 unfolding driven
@@ -187,32 +204,64 @@ work-ranged all (work.Set first) c k = k
 work-ranged all (work.Store i) c k = k
 work-ranged all (work.Drive d) c k = drive-ranged all d (c .dimmer) k
 
-abbrev Leaves : Effect → Type 0
-Leaves e = Ranged (e .core)
+-- What a gesture can leave: what holds of each of these holds of every act of a paddle.
+module _ (P : Effect → Type 0) (all : List ℕ) (paddle : ℕ) (c : Core) where
+  pub record Acts : Type 0 where
+    pub nothing : P (unwritten c)
+    pub sets : (level rate : ℕ) → P (unwritten (setting all paddle level rate c))
+    pub stops : P (unwritten (stopping paddle c))
+    pub opens : P (opened c)
+    pub leaves : P (unwritten (entering Normal c))
+    pub resets : P (effect (entering Factory c) FactoryValues)
 
-module _ (all : List ℕ) (paddle : ℕ) (c : Core) (w : Ranged c) where
-  holding-ranged : Ranged (holding all paddle c)
-  unfolding holding
-  holding-ranged = both Ranged (optionsOf (dimmingIn all) .capable) (setting-ranged all (far paddle) 255 c w) w
+  module _ (a : Acts) where
+    holds : P (unwritten (holding all paddle c))
+    unfolding holding
+    holds = both (λ (d : Core). P (unwritten d)) (optionsOf (dimmingIn all) .capable) (a .sets (far paddle) 255) (a .nothing)
 
-  ranged-in : (mode : Mode) (g : Gesture) → Ranged (actedIn mode all paddle g c .core)
-  unfolding actedIn actedInNormal actedInSetup actedInFactory tapsInNormal tapsInSetup tapsInFactory unwritten opened entering stopping byAction
-  ranged-in Normal Nothing = w
-  ranged-in Normal (Taps n) =
-      both Leaves (eqb n 1) (setting-ranged all (singleIn all paddle .level) (singleIn all paddle .rate) c w)
-      (both Leaves (eqb n 2) (setting-ranged all (doubleIn all paddle .level) (doubleIn all paddle .rate) c w) (both Leaves (eqb n 5) w w))
-  ranged-in Normal Hold = holding-ranged
-  ranged-in Normal Release = stop-within (c .dimmer) w
-  ranged-in Setup Nothing = w
-  ranged-in Setup (Taps n) = both Leaves (eqb n 2) w (both Leaves (eqb n 10) w w)
-  ranged-in Setup Hold = w
-  ranged-in Setup Release = w
-  ranged-in Factory Nothing = w
-  ranged-in Factory (Taps n) =
-      both Leaves (eqb n 1) (setting-ranged all (singleIn all paddle .level) (singleIn all paddle .rate) c w) (both Leaves (eqb n 2) w w)
-  ranged-in Factory Hold = holding-ranged
-  ranged-in Factory Release = stop-within (c .dimmer) w
+    acts-in : (mode : Mode) (g : Gesture) → P (actedIn mode all paddle g c)
+    unfolding actedIn actedInNormal actedInSetup actedInFactory tapsInNormal tapsInSetup tapsInFactory byAction
+    acts-in Normal Nothing = a .nothing
+    acts-in Normal (Taps n) =
+        both P (eqb n 1) (a .sets _ _) (both P (eqb n 2) (a .sets _ _) (both P (eqb n 5) (a .opens) (a .nothing)))
+    acts-in Normal Hold = holds
+    acts-in Normal Release = a .stops
+    acts-in Setup Nothing = a .nothing
+    acts-in Setup (Taps n) = both P (eqb n 2) (a .leaves) (both P (eqb n 10) (a .resets) (a .nothing))
+    acts-in Setup Hold = a .nothing
+    acts-in Setup Release = a .nothing
+    acts-in Factory Nothing = a .nothing
+    acts-in Factory (Taps n) = both P (eqb n 1) (a .sets _ _) (both P (eqb n 2) (a .leaves) (a .nothing))
+    acts-in Factory Hold = holds
+    acts-in Factory Release = a .stops
+
+    pub every-act : (g : Gesture) → P (acted all paddle g c)
+    unfolding acted
+    every-act g = acts-in (c .mode) g
 
 pub gesture-ranged : (all : List ℕ) (paddle : ℕ) (g : Gesture) (c : Core) → Ranged c → Ranged (acted all paddle g c .core)
-unfolding acted
-gesture-ranged all paddle g c w = ranged-in all paddle c w (c .mode) g
+unfolding unwritten opened entering
+gesture-ranged all paddle g c w =
+    every-act (λ e. Ranged (e .core)) all paddle c
+    (record { nothing = w; sets = λ level rate. setting-ranged all paddle level rate c w; stops = stopping-ranged paddle c w; opens = w; leaves = w; resets = w }) g
+
+-- A gesture leaves the count of the 480 ticks alone.
+pub gesture-save : (all : List ℕ) (paddle : ℕ) (g : Gesture) (c : Core) → acted all paddle g c .core .save ≡ c .save
+unfolding unwritten setting stopping opened entering
+gesture-save all paddle g c =
+    every-act (λ e. e .core .save ≡ c .save) all paddle c
+    (record { nothing = refl; sets = λ level rate. refl; stops = refl; opens = refl; leaves = refl; resets = refl }) g
+
+-- A gesture writes nothing, or counts a Setup entry by five taps in Normal, or sets the factory values by ten in Setup.
+pub writes-by : (P : Write → Type 0) (mode : Mode) (g : Gesture) → P Unwritten → (mode ≡ Normal → g ≡ Taps 5 → P (Count Setups))
+    → (mode ≡ Setup → g ≡ Taps 10 → P FactoryValues) → P (Gestures.writes mode g)
+unfolding Gestures.writes
+writes-by P Normal Nothing none five ten = none
+writes-by P Normal (Taps n) none five ten = cases P (eqb n 5) (λ e. five refl (ap Taps (eqb-true n 5 e))) (λ _. none)
+writes-by P Normal Hold none five ten = none
+writes-by P Normal Release none five ten = none
+writes-by P Setup Nothing none five ten = none
+writes-by P Setup (Taps n) none five ten = cases P (eqb n 10) (λ e. ten refl (ap Taps (eqb-true n 10 e))) (λ _. none)
+writes-by P Setup Hold none five ten = none
+writes-by P Setup Release none five ten = none
+writes-by P Factory g none five ten = none

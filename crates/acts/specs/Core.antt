@@ -14,6 +14,7 @@ use Rattle.dimmer.specs.declared.Dimmer.{Dimmer}
 use Rattle.lamp.specs.Lamp.{freshLamp, entered as flashed, nextLamp, signalSet}
 use Rattle.lamp.specs.declared.Lamp.{Lamp}
 use Rattle.lamp.specs.declared.Colour.{Colour}
+use Rattle.model.specs.Model.{drives}
 use Rattle.registers.specs.Places.{dimmingIn, savedIn}
 use Rattle.registers.specs.declared.write.Write.{Write}
 use Rattle.registers.specs.declared.write.Write.the-variants.{Nothing, Count, Save}
@@ -64,13 +65,21 @@ withDimmer d c = core (c .mode) d (c .lamp) (c .save)
 unfoldable pub setBy : List ℕ → ℕ → ℕ → Dimmer → Dimmer
 setBy all level rate d = setTo d level rate (optionsOf (dimmingIn all))
 
--- The same in a core.
-unfoldable pub setting : List ℕ → ℕ → ℕ → Core → Core
-setting all level rate c = withDimmer (setBy all level rate (c .dimmer)) c
+-- 01, Paddles, 6 to 9: what a paddle does to the dimmer it does only where it drives the load.
+unfoldable pub loaded : ℕ → Dimmer → Dimmer → Dimmer
+loaded paddle driven idle = if drives paddle then driven else idle
 
--- 01, Levels and fades, 9: a stop.
-unfoldable pub stopping : Core → Core
-stopping c = withDimmer (stopped (c .dimmer)) c
+-- 01, Levels and fades, 6: a paddle sets a level, by what 0x8D says at that moment.
+unfoldable pub setting : List ℕ → ℕ → ℕ → ℕ → Core → Core
+setting all paddle level rate c = withDimmer (loaded paddle (setBy all level rate (c .dimmer)) (c .dimmer)) c
+
+-- 01, Levels and fades, 9: a paddle stops what runs.
+unfoldable pub halted : ℕ → Dimmer → Dimmer
+halted paddle d = loaded paddle (stopped d) d
+
+-- 01, Levels and fades, 9: the same, in a core.
+unfoldable pub stopping : ℕ → Core → Core
+stopping paddle c = withDimmer (halted paddle (c .dimmer)) c
 
 -- 01, Paddles, 10 and 01, Lamp, start, factory values, 2: with a new mode its flash and its blinks begin.
 unfoldable pub entering : Mode → Core → Core

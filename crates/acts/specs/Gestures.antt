@@ -1,7 +1,7 @@
--- What a paddle's gesture does by the mode it finds (01, Paddles, 6 to 9). The paddle is known by its number: an even one is a top, an odd
--- one a bottom.
+-- What a paddle's gesture does by the mode it finds (01, Paddles, 6 to 9). The paddle is known by its number; `model` says whether it is
+-- a top one, and whether it drives the load: one that does not leaves the dimmer alone.
 use mathlib.Core.List.{List}
-use Prim.Native.Nat.{ℕ, _%_}
+use Prim.Native.Nat.{ℕ}
 use lib.Dec.{eqb}
 use Rattle.words.specs.Words.{if_then_else_}
 use Rattle.vault.specs.declared.Mode.{Mode}
@@ -9,6 +9,7 @@ use Rattle.vault.specs.declared.Mode.the-variants.{Normal, Setup, Factory}
 use Rattle.dimmer.specs.Dimmer.{optionsOf}
 use Rattle.paddle.specs.declared.Gesture.{Gesture}
 use Rattle.paddle.specs.declared.Gesture.the-variants.{Nothing, Taps, Hold, Release}
+use Rattle.model.specs.Model.{isTop}
 use Rattle.registers.specs.Places.{singleIn, doubleIn, dimmingIn}
 use Rattle.registers.specs.declared.places.Action.{Action}
 use Rattle.registers.specs.declared.places.Counter.the-variants.{Setups}
@@ -19,22 +20,22 @@ use Rattle.acts.specs.declared.Core.{Core}
 use Rattle.acts.specs.declared.Effect.{Effect}
 
 -- 01, Paddles, 6: an action of the table sets its level at its rate.
-unfoldable pub byAction : List ℕ → Action → Core → Core
-byAction all action c = setting all (action .level) (action .rate) c
+unfoldable pub byAction : List ℕ → ℕ → Action → Core → Core
+byAction all paddle action c = setting all paddle (action .level) (action .rate) c
 
 -- 01, Paddles, 7: the percent that a Hold heads for.
 unfoldable pub far : ℕ → ℕ
-far paddle = if eqb (paddle % 2) 0 then 100 else 0
+far paddle = if isTop paddle then 100 else 0
 
 -- 01, Paddles, 7: a Hold, which does nothing to a load that cannot dim. The rate 255 is the default rate.
 unfoldable pub holding : List ℕ → ℕ → Core → Core
-holding all paddle c = if optionsOf (dimmingIn all) .capable then setting all (far paddle) 255 c else c
+holding all paddle c = if optionsOf (dimmingIn all) .capable then setting all paddle (far paddle) 255 c else c
 
 -- 01, Paddles, 6: one tap and two act by the table, five open Setup.
 unfoldable pub tapsInNormal : List ℕ → ℕ → ℕ → Core → Effect
 tapsInNormal all paddle taps c =
-    if eqb taps 1 then unwritten (byAction all (singleIn all paddle) c)
-    else if eqb taps 2 then unwritten (byAction all (doubleIn all paddle) c)
+    if eqb taps 1 then unwritten (byAction all paddle (singleIn all paddle) c)
+    else if eqb taps 2 then unwritten (byAction all paddle (doubleIn all paddle) c)
     else if eqb taps 5 then opened c
     else unwritten c
 
@@ -43,7 +44,7 @@ unfoldable pub actedInNormal : List ℕ → ℕ → Gesture → Core → Effect
 actedInNormal all paddle Nothing c = unwritten c
 actedInNormal all paddle (Taps n) c = tapsInNormal all paddle n c
 actedInNormal all paddle Hold c = unwritten (holding all paddle c)
-actedInNormal all paddle Release c = unwritten (stopping c)
+actedInNormal all paddle Release c = unwritten (stopping paddle c)
 
 -- 01, Paddles, 8: two taps leave Setup, ten set the factory values.
 unfoldable pub tapsInSetup : ℕ → Core → Effect
@@ -62,7 +63,7 @@ actedInSetup Release c = unwritten c
 -- 01, Paddles, 9: two taps leave Factory Default, one acts as in Normal, five do nothing.
 unfoldable pub tapsInFactory : List ℕ → ℕ → ℕ → Core → Effect
 tapsInFactory all paddle taps c =
-    if eqb taps 1 then unwritten (byAction all (singleIn all paddle) c)
+    if eqb taps 1 then unwritten (byAction all paddle (singleIn all paddle) c)
     else if eqb taps 2 then unwritten (entering Normal c)
     else unwritten c
 
@@ -71,7 +72,7 @@ unfoldable pub actedInFactory : List ℕ → ℕ → Gesture → Core → Effect
 actedInFactory all paddle Nothing c = unwritten c
 actedInFactory all paddle (Taps n) c = tapsInFactory all paddle n c
 actedInFactory all paddle Hold c = unwritten (holding all paddle c)
-actedInFactory all paddle Release c = unwritten (stopping c)
+actedInFactory all paddle Release c = unwritten (stopping paddle c)
 
 -- What a gesture does in each mode.
 unfoldable pub actedIn : Mode → List ℕ → ℕ → Gesture → Core → Effect

@@ -1,4 +1,4 @@
-// What a paddle's gesture does by the mode it finds. The paddle is known by its number: an even one is a top.
+// What a paddle's gesture does by the mode it finds. The paddle is known by its number; `model` says what it is to the load.
 ghost use mathlib.Core.Path.{_≡_};
 ghost use Rattle.acts.specs.Gestures.{acted, actedInNormal, actedInSetup, actedInFactory, tapsInNormal, tapsInSetup, tapsInFactory, byAction, holding, far};
 use crate::Core;
@@ -27,7 +27,7 @@ fn in_normal(core: Core, all: &[u8; 256], paddle: u8, gesture: Gesture) -> Effec
         Gesture::Nothing => core.unwritten(),
         Gesture::Taps(taps) => taps_in_normal(core, all, paddle, taps),
         Gesture::Hold => holding(core, all, paddle).unwritten(),
-        Gesture::Release => core.stopping().unwritten(),
+        Gesture::Release => core.stopping(paddle).unwritten(),
     }
 }
 
@@ -49,7 +49,7 @@ fn in_factory(core: Core, all: &[u8; 256], paddle: u8, gesture: Gesture) -> Effe
         Gesture::Nothing => core.unwritten(),
         Gesture::Taps(taps) => taps_in_factory(core, all, paddle, taps),
         Gesture::Hold => holding(core, all, paddle).unwritten(),
-        Gesture::Release => core.stopping().unwritten(),
+        Gesture::Release => core.stopping(paddle).unwritten(),
     }
 }
 
@@ -58,10 +58,10 @@ fn taps_in_normal(core: Core, all: &[u8; 256], paddle: u8, taps: u8) -> Effect
     ensures { λ r. ⌜ r ≡ tapsInNormal (now (all .entry)) paddle taps core ⌝ }
 {
     if taps == 1 {
-        return doing(core, all, registers::places::single(all, paddle)).unwritten();
+        return doing(core, all, paddle, registers::places::single(all, paddle)).unwritten();
     }
     if taps == 2 {
-        return doing(core, all, registers::places::double(all, paddle)).unwritten();
+        return doing(core, all, paddle, registers::places::double(all, paddle)).unwritten();
     }
     if taps == 5 {
         return core.opened();
@@ -90,7 +90,7 @@ fn taps_in_factory(core: Core, all: &[u8; 256], paddle: u8, taps: u8) -> Effect
     ensures { λ r. ⌜ r ≡ tapsInFactory (now (all .entry)) paddle taps core ⌝ }
 {
     if taps == 1 {
-        return doing(core, all, registers::places::single(all, paddle)).unwritten();
+        return doing(core, all, paddle, registers::places::single(all, paddle)).unwritten();
     }
     if taps == 2 {
         return core.entering(Mode::Normal).unwritten();
@@ -98,10 +98,10 @@ fn taps_in_factory(core: Core, all: &[u8; 256], paddle: u8, taps: u8) -> Effect
     core.unwritten()
 }
 
-fn doing(core: Core, all: &[u8; 256], action: Action) -> Core
-    ensures { λ r. ⌜ r ≡ byAction (now (all .entry)) action core ⌝ }
+fn doing(core: Core, all: &[u8; 256], paddle: u8, action: Action) -> Core
+    ensures { λ r. ⌜ r ≡ byAction (now (all .entry)) paddle action core ⌝ }
 {
-    core.setting(all, action.level, action.rate)
+    core.setting(all, paddle, action.level, action.rate)
 }
 
 // A Hold fades to full or off at the default rate, where the load can dim.
@@ -110,7 +110,7 @@ fn holding(core: Core, all: &[u8; 256], paddle: u8) -> Core
 {
     let options = Options::of(registers::places::dimming(all));
     if options.capable {
-        return core.setting(all, far(paddle), 255);
+        return core.setting(all, paddle, far(paddle), 255);
     }
     core
 }
@@ -119,7 +119,7 @@ fn holding(core: Core, all: &[u8; 256], paddle: u8) -> Core
 fn far(paddle: u8) -> u8
     ensures { λ r. ⌜ r ≡ far paddle ⌝ }
 {
-    if paddle % 2 == 0 {
+    if model::top(paddle) {
         return 100;
     }
     0

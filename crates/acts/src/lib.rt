@@ -1,7 +1,7 @@
 // What a tick, a packet's order and a paddle's gesture do to the core of a switch. The registers are only read here; what is
 // to be written to them comes back.
 ghost use mathlib.Core.Path.{_≡_};
-ghost use Rattle.acts.specs.Core.{unwritten, startLevel, started, aged, toSave, saved, setBy, setting, stopping, entering, signalled, opened};
+ghost use Rattle.acts.specs.Core.{unwritten, startLevel, started, aged, toSave, saved, setBy, setting, halted, stopping, entering, signalled, opened};
 use dimmer::Dimmer;
 use dimmer::Options;
 use lamp::Colour;
@@ -84,17 +84,21 @@ impl Core {
         }
     }
 
-    fn setting(mut self, all: &[u8; 256], level: u8, rate: u8) -> Core
-        ensures { λ r. ⌜ r ≡ setting (now (all .entry)) level rate self ⌝ }
+    // A paddle sets a level, where it drives the load.
+    fn setting(mut self, all: &[u8; 256], paddle: u8, level: u8, rate: u8) -> Core
+        ensures { λ r. ⌜ r ≡ setting (now (all .entry)) paddle level rate self ⌝ }
     {
-        self.dimmer = set_by(self.dimmer, all, level, rate);
+        if model::drives(paddle) {
+            self.dimmer = set_by(self.dimmer, all, level, rate);
+            return self;
+        }
         self
     }
 
-    fn stopping(mut self) -> Core
-        ensures { λ r. ⌜ r ≡ stopping self ⌝ }
+    fn stopping(mut self, paddle: u8) -> Core
+        ensures { λ r. ⌜ r ≡ stopping paddle self ⌝ }
     {
-        self.dimmer = self.dimmer.stop();
+        self.dimmer = halted(self.dimmer, paddle);
         self
     }
 
@@ -138,6 +142,16 @@ pub fn set_by(dimmer: Dimmer, all: &[u8; 256], level: u8, rate: u8) -> Dimmer
 {
     let options = Options::of(registers::places::dimming(all));
     dimmer.set(level, rate, options)
+}
+
+// A paddle stops what runs, where it drives the load.
+pub fn halted(dimmer: Dimmer, paddle: u8) -> Dimmer
+    ensures { λ r. ⌜ r ≡ halted paddle dimmer ⌝ }
+{
+    if model::drives(paddle) {
+        return dimmer.stop();
+    }
+    dimmer
 }
 
 fn start_level(saved: u8) -> Step

@@ -8,31 +8,59 @@ use lib.Dec.{eqb}
 use lib.ListN.{length, take, drop, replicate}
 use Rattle.words.specs.Words.{if_then_else_}
 use Rattle.vault.specs.Job.{Switch}
+use Rattle.vault.specs.declared.Password.{Password}
+use Rattle.model.specs.Model.{room}
 use Rattle.registers.specs.Registers.{imageOf}
 use Rattle.post.specs.Post.{placed}
-use Rattle.switch.specs.Switch.{Plain, Deed, press, release, tick, receive, restart, event, held}
-use Rattle.switch.specs.Respond.{respond, nobody, whole, startAnswer, startNext}
+use Rattle.state.specs.State.{counterCount, numberCount, passwordOf}
+use Rattle.state.specs.Keeping.{keptCounters, keptNumbers}
+use Rattle.state.specs.Paddles.{byteCount, keptPaddles}
+use Rattle.switch.specs.Switch.{Plain, Deed, press, release, tick, receive, restart, event, switchOf}
+use Rattle.switch.specs.Respond.{respond, whole, startAnswer, startedFrom}
 use Rattle.switch.specs.declared.Answer.{Answer}
 use Rattle.line.specs.declared.read.Line.{Line}
 use Rattle.line.specs.declared.read.Line.the-variants.{Pass, Unread, Image, Room, Press, Release, Ticks, Packet, Restart, Dump}
 use Rattle.desk.specs.declared.play.Event.{Event}
 use Rattle.desk.specs.declared.play.Event.the-variants as happens
 use Rattle.desk.specs.declared.play.Desk.{Desk}
-use Rattle.line.specs.Writing.{Page, puts, started, answered, dump, none, unread}
+use Rattle.line.specs.Writing.{Page, puts, fill, started, answered, dump, none, unread}
 
--- All that a script plays with: whether there is a switch, that switch, how many bytes of the buffer are lent to it, and the buffer.
+-- What a switch is kept in: counters, numbers, the paddles' bytes and the registers.
+pub record Arrays : Type 0 where
+  pub counters : List ℕ
+  pub numbers : List ℕ
+  pub paddles : List ℕ
+  pub registers : List ℕ
+
+abbrev pub arrays : List ℕ → List ℕ → List ℕ → List ℕ → Arrays
+arrays counters numbers paddles registers = record { counters = counters; numbers = numbers; paddles = paddles; registers = registers }
+
+-- The switch that is kept in them.
+abbrev pub switchIn : Arrays → Switch Plain
+switchIn a = switchOf (a .counters) (a .numbers) (a .paddles) (a .registers)
+
+-- A switch, kept in arrays that held another one.
+abbrev pub keptIn : Arrays → Switch Plain → Arrays
+keptIn a s =
+    arrays (keptCounters (s .plain .core) (a .counters)) (keptNumbers (s .plain .core) (s .password) (a .numbers)) (keptPaddles (s .plain .paddles) (a .paddles)) (s .plain .registers)
+
+-- Arrays in which nothing is left of a switch that stood there.
+abbrev pub cleared : Arrays
+cleared = arrays (replicate counterCount 0) (replicate numberCount 0) (replicate byteCount 0) []
+
+-- All that a script plays with: whether there is a switch, what it is kept in, how many bytes of the buffer are lent to it, and the buffer.
 pub record Scene : Type 0 where
   pub there : Bool
-  pub switch : Switch Plain
+  pub arrays : Arrays
   pub room : ℕ
   pub buffer : List ℕ
 
-abbrev pub scene : Bool → Switch Plain → ℕ → List ℕ → Scene
-scene there switch room buffer = record { there = there; switch = switch; room = room; buffer = buffer }
+abbrev pub scene : Bool → Arrays → ℕ → List ℕ → Scene
+scene there arrays room buffer = record { there = there; arrays = arrays; room = room; buffer = buffer }
 
--- As the code holds it: the registers and the buffer are lent, the rest goes by value.
-abbrev pub sceneOf : Desk → List ℕ → List ℕ → Scene
-sceneOf desk all buffer = scene (desk .there) (held (desk .live) all) (desk .room) buffer
+-- As the code holds it: the arrays and the buffer are lent, the rest goes by value.
+abbrev pub sceneOf : Desk → List ℕ → List ℕ → List ℕ → List ℕ → List ℕ → Scene
+sceneOf desk counters numbers paddles all buffer = scene (desk .there) (arrays counters numbers paddles all) (desk .room) buffer
 
 -- What a line does: the scene after it, and the text that is written.
 pub record Done : Type 0 where
@@ -42,34 +70,34 @@ pub record Done : Type 0 where
 abbrev pub done : Scene → List ℕ → Done
 done after text = record { after = after; text = text }
 
--- The start of a script: no switch, and a buffer of 48 bytes.
+-- The start of a script: no switch, and a buffer with just the room that an event asks for.
 abbrev pub emptyDesk : Desk
-emptyDesk = record { there = false; live = nobody; room = 48 }
+emptyDesk = record { there = false; room = room }
 
--- Before every event each lent byte is made 0xAA.
+-- Before every event each lent byte is made the same.
 abbrev pub filled : List ℕ → List ℕ
-filled out = replicate (length out) 0xAA
+filled out = replicate (length out) fill
 
--- An event of the switch that is there: its answer is written as `say` has it, and the bytes that are not lent stay.
+-- An event of the switch that is there: its answer is written as `say` has it, the switch after it is kept, and the bytes that are not lent stay.
 unfoldable pub happened : (Answer → List ℕ → List ℕ) → Deed → Scene → Done
 happened say deed s =
     let lent = filled (take (s .room) (s .buffer)) in
-    let response = respond (s .switch) (event (length lent) deed) in
+    let response = respond (switchIn (s .arrays)) (event (length lent) deed) in
     let bytes = placed (response .shown .sent) lent in
-    done (scene (s .there) (response .next) (s .room) (bytes ++ drop (s .room) (s .buffer))) (say (response .shown .answer) bytes)
+    done (scene (s .there) (keptIn (s .arrays) (response .next)) (s .room) (bytes ++ drop (s .room) (s .buffer))) (say (response .shown .answer) bytes)
 
 -- An event where there is no switch is not one: `none` is written.
 unfoldable pub told : ℕ → Deed → Scene → Done
 told letter deed s = if not (s .there) then done s (none letter) else happened (answered letter) deed s
 
--- `i`: a count other than 256 is refused, and then there is no switch. No buffer is lent.
+-- `i`: the switch of the image; a count other than 256 is refused, and then there is no switch, and the arrays stay. No buffer is lent.
 unfoldable pub begun : List ℕ → Scene → Done
 begun image s =
-    done (scene (whole image) (startNext image (s .switch .plain .registers)) (s .room) (s .buffer)) (started (startAnswer image))
+    done (scene (whole image) (if whole image then keptIn cleared (startedFrom image) else s .arrays) (s .room) (s .buffer)) (started (startAnswer image))
 
 -- `d`: the 256 registers, the password among them, where there is a switch.
-unfoldable pub shownOf : Bool → Switch Plain → List ℕ
-shownOf there s = if not there then none (code "d") else dump (imageOf (s .plain .registers) (s .password))
+unfoldable pub shownOf : Bool → List ℕ → Password → List ℕ
+shownOf there registers password = if not there then none (code "d") else dump (imageOf registers password)
 
 -- `t` with no switch: written once, before any tick, unless it asks for none.
 unfoldable pub awaited : ℕ → Bool → List ℕ
@@ -80,13 +108,13 @@ unfoldable pub played : ℕ → Line → List ℕ → Scene → Done
 played number Pass bytes s = done s []
 played number Unread bytes s = done s (unread number)
 played number (Image n) bytes s = begun (take n bytes) s
-played number (Room n) bytes s = done (scene (s .there) (s .switch) n (s .buffer)) []
+played number (Room n) bytes s = done (scene (s .there) (s .arrays) n (s .buffer)) []
 played number (Press n) bytes s = told (code "p") (press n) s
 played number (Release n) bytes s = told (code "r") (release n) s
 played number (Ticks n) bytes s = done s (awaited n (s .there))
 played number (Packet n) bytes s = told (code "k") (receive (take n bytes)) s
 played number Restart bytes s = told (code "x") restart s
-played number Dump bytes s = done s (shownOf (s .there) (s .switch))
+played number Dump bytes s = done s (shownOf (s .there) (s .arrays .registers) (passwordOf (s .arrays .numbers)))
 
 -- How many ticks a line asks of the switch, where there is one.
 unfoldable pub ticksOf : Line → Bool → ℕ
@@ -101,9 +129,10 @@ ticksOf (Packet n) there = 0
 ticksOf Restart there = 0
 ticksOf Dump there = 0
 
--- What every line promises: the switch with each of its registers, the buffer's every byte, and the page are those of its meaning.
-pub record Plays (meant : Done) (page : Page) (desk : Desk) (all buffer : List ℕ) (page′ : Page) : Type 0 where
-  pub after : sceneOf desk all buffer ≡ meant .after
+-- What every line promises: whether there is a switch, every counter, number, paddle's byte and register, the buffer's every byte, and the page
+-- are those of its meaning.
+pub record Plays (meant : Done) (page : Page) (desk : Desk) (counters numbers paddles all buffer : List ℕ) (page′ : Page) : Type 0 where
+  pub after : sceneOf desk counters numbers paddles all buffer ≡ meant .after
   pub written : page′ ≡ puts (meant .text) page
 
 -- The letter of an event, as the code has it.

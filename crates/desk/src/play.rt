@@ -2,7 +2,8 @@
 ghost use mathlib.Core.Path.{_≡_};
 ghost use mathlib.Core.List.{List};
 ghost use Prim.Native.Nat.{ℕ, min};
-ghost use Rattle.switch.specs.Switch.{tick, held};
+ghost use Rattle.state.specs.State.{passwordOf};
+ghost use Rattle.switch.specs.Switch.{tick};
 ghost use Rattle.switch.specs.Respond.{Responds};
 ghost use Rattle.line.specs.Writing.{pageOf, puts, row};
 ghost use Rattle.desk.specs.Playing.{emptyDesk, sceneOf, filled, happened, told, begun, shownOf, awaited, played, ticksOf};
@@ -11,20 +12,19 @@ use line::read::Line;
 use line::write;
 use line::write::FILL;
 use line::write::front;
-use switch::Handed;
-use switch::Live;
+use model::ROOM;
+use state::BYTES;
+use state::COUNTERS;
+use state::NUMBERS;
+use switch::Answer;
 use switch::edges;
 use switch::receive;
 use switch::start;
 use switch::tick;
 
-// How many bytes of the buffer are lent at the start.
-const ROOM: usize = 48;
-
-// Whether there is a switch, all that it holds besides its registers, and how many bytes of the buffer are lent to it.
+// Whether there is a switch, and how many bytes of the buffer are lent to it. All that it holds is lent beside the desk.
 pub struct Desk {
     pub there: bool,
-    pub live: Live,
     pub room: usize,
 }
 
@@ -48,32 +48,18 @@ impl Desk {
     pub fn empty() -> Desk
         ensures { λ r. ⌜ r ≡ emptyDesk ⌝ }
     {
-        let mut all = [0u8; 256];
-        let outcome = start::start(b"", &mut all);
-        let live = outcome.live;
         Desk {
             there: false,
-            live,
             room: ROOM,
         }
     }
 
     fn with_room(self, room: usize) -> Desk
-        ensures { λ r. ⌜ r ≡ record { there = self .there; live = self .live; room = room } ⌝ }
+        ensures { λ r. ⌜ r ≡ record { there = self .there; room = room } ⌝ }
     {
         let mut next = self;
         next.room = room;
         next
-    }
-
-    fn with_live(self, live: Live) -> Desk
-        ensures { λ r. ⌜ r ≡ record { there = self .there; live = live; room = self .room } ⌝ }
-    {
-        Desk {
-            there: self.there,
-            live,
-            room: self.room,
-        }
     }
 }
 
@@ -83,12 +69,15 @@ pub fn play(
     number: u64,
     bytes: &[u8],
     desk: Desk,
+    counters: &mut [u16; COUNTERS],
+    numbers: &mut [u8; NUMBERS],
+    paddles: &mut [u8; BYTES],
     all: &mut [u8; 256],
     buffer: &mut [u8],
     page: &mut [u8],
     at: usize,
 ) -> Turn
-    ensures { λ r. ⌜ Plays (played number line (now (bytes .entry)) (sceneOf desk (now (all .entry)) (now (buffer .entry)))) (pageOf (now (page .entry)) at) (r .desk) (now (all .exit)) (now (buffer .exit)) (pageOf (now (page .exit)) (r .at)) ⌝ }
+    ensures { λ r. ⌜ Plays (played number line (now (bytes .entry)) (sceneOf desk (now (counters .entry)) (now (numbers .entry)) (now (paddles .entry)) (now (all .entry)) (now (buffer .entry)))) (pageOf (now (page .entry)) at) (r .desk) (now (counters .exit)) (now (numbers .exit)) (now (paddles .exit)) (now (all .exit)) (now (buffer .exit)) (pageOf (now (page .exit)) (r .at)) ⌝ }
 {
     match line {
         Line::Pass => Turn { desk, at },
@@ -96,22 +85,75 @@ pub fn play(
             desk,
             at: write::unread(page, at, number),
         },
-        Line::Image(n) => begin(front(bytes, n), desk, all, page, at),
+        Line::Image(n) => begin(
+            front(bytes, n),
+            desk,
+            counters,
+            numbers,
+            paddles,
+            all,
+            page,
+            at,
+        ),
         Line::Room(n) => Turn {
             desk: desk.with_room(n as usize),
             at,
         },
-        Line::Press(n) => tell(Event::Press(n), b"", desk, all, buffer, page, at),
-        Line::Release(n) => tell(Event::Release(n), b"", desk, all, buffer, page, at),
+        Line::Press(n) => tell(
+            Event::Press(n),
+            b"",
+            desk,
+            counters,
+            numbers,
+            paddles,
+            all,
+            buffer,
+            page,
+            at,
+        ),
+        Line::Release(n) => tell(
+            Event::Release(n),
+            b"",
+            desk,
+            counters,
+            numbers,
+            paddles,
+            all,
+            buffer,
+            page,
+            at,
+        ),
         Line::Ticks(n) => Turn {
             desk,
             at: wait(n, desk, page, at),
         },
-        Line::Packet(n) => tell(Event::Packet, front(bytes, n), desk, all, buffer, page, at),
-        Line::Restart => tell(Event::Restart, b"", desk, all, buffer, page, at),
+        Line::Packet(n) => tell(
+            Event::Packet,
+            front(bytes, n),
+            desk,
+            counters,
+            numbers,
+            paddles,
+            all,
+            buffer,
+            page,
+            at,
+        ),
+        Line::Restart => tell(
+            Event::Restart,
+            b"",
+            desk,
+            counters,
+            numbers,
+            paddles,
+            all,
+            buffer,
+            page,
+            at,
+        ),
         Line::Dump => Turn {
             desk,
-            at: show(desk, all, page, at),
+            at: show(desk, numbers, all, page, at),
         },
     }
 }
@@ -130,17 +172,29 @@ pub fn ticks(line: Line, desk: Desk) -> u32
 }
 
 // One tick, whose row is written on a page of its own.
-pub fn tick(desk: Desk, all: &mut [u8; 256], buffer: &mut [u8], page: &mut [u8]) -> Turn
-    ensures { λ r. ⌜ Plays (happened row tick (sceneOf desk (now (all .entry)) (now (buffer .entry)))) (pageOf (now (page .entry)) 0) (r .desk) (now (all .exit)) (now (buffer .exit)) (pageOf (now (page .exit)) (r .at)) ⌝ }
+pub fn tick(
+    desk: Desk,
+    counters: &mut [u16; COUNTERS],
+    numbers: &mut [u8; NUMBERS],
+    paddles: &mut [u8; BYTES],
+    all: &mut [u8; 256],
+    buffer: &mut [u8],
+    page: &mut [u8],
+) -> Turn
+    ensures { λ r. ⌜ Plays (happened row tick (sceneOf desk (now (counters .entry)) (now (numbers .entry)) (now (paddles .entry)) (now (all .entry)) (now (buffer .entry)))) (pageOf (now (page .entry)) 0) (r .desk) (now (counters .exit)) (now (numbers .exit)) (now (paddles .exit)) (now (all .exit)) (now (buffer .exit)) (pageOf (now (page .exit)) (r .at)) ⌝ }
 {
     let room = least(desk.room, buffer.len());
-    let outcome = happen(Event::Tick, b"", desk.live, all, &mut buffer[..room]);
-    let end = write::row(page, 0, outcome.answer, &buffer[..room]);
-    let ticked = desk.with_live(outcome.live);
-    Turn {
-        desk: ticked,
-        at: end,
-    }
+    let answer = happen(
+        Event::Tick,
+        b"",
+        counters,
+        numbers,
+        paddles,
+        all,
+        &mut buffer[..room],
+    );
+    let end = write::row(page, 0, answer, &buffer[..room]);
+    Turn { desk, at: end }
 }
 
 // Whether two rows are equal.
@@ -161,17 +215,23 @@ pub fn same(a: &[u8], b: &[u8]) -> bool
 }
 
 // A start. Where it is refused there is no switch any more.
-fn begin(image: &[u8], desk: Desk, all: &mut [u8; 256], page: &mut [u8], at: usize) -> Turn
-    ensures { λ r. ⌜ ((buffer : List ℕ) → Plays (begun (now (image .entry)) (sceneOf desk (now (all .entry)) buffer)) (pageOf (now (page .entry)) at) (r .desk) (now (all .exit)) buffer (pageOf (now (page .exit)) (r .at))) ⌝ }
+fn begin(
+    image: &[u8],
+    desk: Desk,
+    counters: &mut [u16; COUNTERS],
+    numbers: &mut [u8; NUMBERS],
+    paddles: &mut [u8; BYTES],
+    all: &mut [u8; 256],
+    page: &mut [u8],
+    at: usize,
+) -> Turn
+    ensures { λ r. ⌜ ((buffer : List ℕ) → Plays (begun (now (image .entry)) (sceneOf desk (now (counters .entry)) (now (numbers .entry)) (now (paddles .entry)) (now (all .entry)) buffer)) (pageOf (now (page .entry)) at) (r .desk) (now (counters .exit)) (now (numbers .exit)) (now (paddles .exit)) (now (all .exit)) buffer (pageOf (now (page .exit)) (r .at))) ⌝ }
 {
-    let outcome = start::start(image, all);
-    let answer = outcome.answer;
-    let live = outcome.live;
+    let answer = start::start(image, counters, numbers, paddles, all);
     let next = write::started(page, at, answer);
     Turn {
         desk: Desk {
             there: answer.number == 0,
-            live,
             room: desk.room,
         },
         at: next,
@@ -183,12 +243,15 @@ fn tell(
     event: Event,
     packet: &[u8],
     desk: Desk,
+    counters: &mut [u16; COUNTERS],
+    numbers: &mut [u8; NUMBERS],
+    paddles: &mut [u8; BYTES],
     all: &mut [u8; 256],
     buffer: &mut [u8],
     page: &mut [u8],
     at: usize,
 ) -> Turn
-    ensures { λ r. ⌜ Plays (told (letterOf event) (deedOf event (now (packet .entry))) (sceneOf desk (now (all .entry)) (now (buffer .entry)))) (pageOf (now (page .entry)) at) (r .desk) (now (all .exit)) (now (buffer .exit)) (pageOf (now (page .exit)) (r .at)) ⌝ }
+    ensures { λ r. ⌜ Plays (told (letterOf event) (deedOf event (now (packet .entry))) (sceneOf desk (now (counters .entry)) (now (numbers .entry)) (now (paddles .entry)) (now (all .entry)) (now (buffer .entry)))) (pageOf (now (page .entry)) at) (r .desk) (now (counters .exit)) (now (numbers .exit)) (now (paddles .exit)) (now (all .exit)) (now (buffer .exit)) (pageOf (now (page .exit)) (r .at)) ⌝ }
 {
     let letter = letter(event);
     if !desk.there {
@@ -198,26 +261,38 @@ fn tell(
         };
     }
     let room = least(desk.room, buffer.len());
-    let outcome = happen(event, packet, desk.live, all, &mut buffer[..room]);
-    let next = write::answered(page, at, letter, outcome.answer, &buffer[..room]);
-    let told = desk.with_live(outcome.live);
-    Turn {
-        desk: told,
-        at: next,
-    }
+    let answer = happen(
+        event,
+        packet,
+        counters,
+        numbers,
+        paddles,
+        all,
+        &mut buffer[..room],
+    );
+    let next = write::answered(page, at, letter, answer, &buffer[..room]);
+    Turn { desk, at: next }
 }
 
 // The event happens with the lent bytes filled.
-fn happen(event: Event, packet: &[u8], live: Live, all: &mut [u8; 256], out: &mut [u8]) -> Handed
-    ensures { λ r. ⌜ Responds (deedOf event (now (packet .entry))) live (now (all .entry)) (filled (now (out .entry))) (r .answer) (r .live) (now (all .exit)) (now (out .exit)) ⌝ }
+fn happen(
+    event: Event,
+    packet: &[u8],
+    counters: &mut [u16; COUNTERS],
+    numbers: &mut [u8; NUMBERS],
+    paddles: &mut [u8; BYTES],
+    all: &mut [u8; 256],
+    out: &mut [u8],
+) -> Answer
+    ensures { λ r. ⌜ Responds (deedOf event (now (packet .entry))) (now (counters .entry)) (now (numbers .entry)) (now (paddles .entry)) (now (all .entry)) (filled (now (out .entry))) r (now (counters .exit)) (now (numbers .exit)) (now (paddles .exit)) (now (all .exit)) (now (out .exit)) ⌝ }
 {
     fill(out);
     match event {
-        Event::Press(contact) => edges::press(live, all, contact, out),
-        Event::Release(contact) => edges::release(live, all, contact, out),
-        Event::Tick => tick::tick(live, all, out),
-        Event::Packet => receive::receive(live, all, packet, out),
-        Event::Restart => start::restart(live, all, out),
+        Event::Press(contact) => edges::press(counters, numbers, paddles, all, contact, out),
+        Event::Release(contact) => edges::release(counters, numbers, paddles, all, contact, out),
+        Event::Tick => tick::tick(counters, numbers, paddles, all, out),
+        Event::Packet => receive::receive(counters, numbers, all, packet, out),
+        Event::Restart => start::restart(counters, numbers, paddles, all, out),
     }
 }
 
@@ -247,14 +322,14 @@ fn wait(ticks: u32, desk: Desk, page: &mut [u8], at: usize) -> usize
 }
 
 // The registers, where there is a switch.
-fn show(desk: Desk, all: &[u8; 256], page: &mut [u8], at: usize) -> usize
-    ensures { λ r. ⌜ pageOf (now (page .exit)) r ≡ puts (shownOf (desk .there) (held (desk .live) (now (all .entry)))) (pageOf (now (page .entry)) at) ⌝ }
+fn show(desk: Desk, numbers: &[u8; NUMBERS], all: &[u8; 256], page: &mut [u8], at: usize) -> usize
+    ensures { λ r. ⌜ pageOf (now (page .exit)) r ≡ puts (shownOf (desk .there) (now (all .entry)) (passwordOf (now (numbers .entry)))) (pageOf (now (page .entry)) at) ⌝ }
 {
     if !desk.there {
         return write::none(page, at, b'd');
     }
     let mut image = [0u8; 256];
-    start::image(desk.live, all, &mut image);
+    start::image(numbers, all, &mut image);
     write::dump(page, at, &image)
 }
 

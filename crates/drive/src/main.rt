@@ -9,6 +9,11 @@ use line::read::Line;
 use line::read::read;
 use line::write;
 use line::write::front;
+use model::PADDLES;
+use model::PLACE;
+use state::BYTES;
+use state::COUNTERS;
+use state::NUMBERS;
 
 // What is kept of a line: one byte more than the longest that reads.
 const LINE: usize = 2049;
@@ -25,8 +30,8 @@ const BLOCK: usize = 65536;
 // A page that reaches past this place is written out: less than 2,048 bytes of room are left.
 const FULL: usize = 63488;
 
-// More than any row takes.
-const ROW: usize = 256;
+// The most that a row takes: of each packet its length and a comma, and two digits for every byte.
+const ROW: usize = 38 + PADDLES * (5 + 2 * PLACE);
 
 // What goes out: the place of the next byte on the page, and whether every page so far was taken. Once one was not, no more is written.
 struct Out {
@@ -76,6 +81,9 @@ fn main() {
 fn run(fd: i32, name: &[u8]) {
     let mut input = [0u8; BLOCK];
     let mut line = [0u8; LINE];
+    let mut counters = [0u16; COUNTERS];
+    let mut numbers = [0u8; NUMBERS];
+    let mut paddles = [0u8; BYTES];
     let mut all = [0u8; 256];
     let mut buffer = [0u8; BUFFER];
     let mut page = [0u8; BLOCK];
@@ -97,6 +105,9 @@ fn run(fd: i32, name: &[u8]) {
             got,
             script,
             &mut line,
+            &mut counters,
+            &mut numbers,
+            &mut paddles,
             &mut all,
             &mut buffer,
             &mut page,
@@ -107,7 +118,16 @@ fn run(fd: i32, name: &[u8]) {
         turns -= 1;
     }
     if 0 < script.size {
-        script = perform(script, &line, &mut all, &mut buffer, &mut page);
+        script = perform(
+            script,
+            &line,
+            &mut counters,
+            &mut numbers,
+            &mut paddles,
+            &mut all,
+            &mut buffer,
+            &mut page,
+        );
     }
     print(&page, script.out);
     report(script.unread);
@@ -128,6 +148,9 @@ fn part(
     count: usize,
     script: Script,
     line: &mut [u8; LINE],
+    counters: &mut [u16; COUNTERS],
+    numbers: &mut [u8; NUMBERS],
+    paddles: &mut [u8; BYTES],
     all: &mut [u8; 256],
     buffer: &mut [u8; BUFFER],
     page: &mut [u8; BLOCK],
@@ -137,7 +160,7 @@ fn part(
     let mut i = 0;
     while i < text.len() {
         if text[i] == b'\n' {
-            next = perform(next, line, all, buffer, page);
+            next = perform(next, line, counters, numbers, paddles, all, buffer, page);
         } else {
             next.size = collect(line, next.size, text[i]);
         }
@@ -175,6 +198,9 @@ fn collect(line: &mut [u8; LINE], size: usize, byte: u8) -> usize {
 fn perform(
     script: Script,
     line: &[u8; LINE],
+    counters: &mut [u16; COUNTERS],
+    numbers: &mut [u8; NUMBERS],
+    paddles: &mut [u8; BYTES],
     all: &mut [u8; 256],
     buffer: &mut [u8; BUFFER],
     page: &mut [u8; BLOCK],
@@ -188,6 +214,9 @@ fn perform(
         lines,
         &bytes,
         script.desk,
+        counters,
+        numbers,
+        paddles,
         all,
         buffer,
         page,
@@ -204,7 +233,16 @@ fn perform(
         run: 0,
         size: 0,
     };
-    let end = ticks(play::ticks(said, desk), start, all, buffer, page);
+    let end = ticks(
+        play::ticks(said, desk),
+        start,
+        counters,
+        numbers,
+        paddles,
+        all,
+        buffer,
+        page,
+    );
     let after = end.desk;
     let last = print_full(page, end.out);
     Script {
@@ -228,6 +266,9 @@ fn missed(said: Line, unread: u64) -> u64 {
 fn ticks(
     count: u32,
     start: Ticking,
+    counters: &mut [u16; COUNTERS],
+    numbers: &mut [u8; NUMBERS],
+    paddles: &mut [u8; BYTES],
     all: &mut [u8; 256],
     buffer: &mut [u8; BUFFER],
     page: &mut [u8; BLOCK],
@@ -237,7 +278,17 @@ fn ticks(
     let mut ticking = start;
     let mut left = count;
     while 0 < left {
-        ticking = tick(ticking, all, buffer, &mut last, &mut row, page);
+        ticking = tick(
+            ticking,
+            counters,
+            numbers,
+            paddles,
+            all,
+            buffer,
+            &mut last,
+            &mut row,
+            page,
+        );
         if !ticking.out.taken {
             break;
         }
@@ -256,13 +307,16 @@ fn ticks(
 // A tick joins the run where its row is the same. Else the run is written, and the tick begins another.
 fn tick(
     ticking: Ticking,
+    counters: &mut [u16; COUNTERS],
+    numbers: &mut [u8; NUMBERS],
+    paddles: &mut [u8; BYTES],
     all: &mut [u8; 256],
     buffer: &mut [u8; BUFFER],
     last: &mut [u8; ROW],
     row: &mut [u8; ROW],
     page: &mut [u8; BLOCK],
 ) -> Ticking {
-    let turn = play::tick(ticking.desk, all, buffer, row);
+    let turn = play::tick(ticking.desk, counters, numbers, paddles, all, buffer, row);
     let desk = turn.desk;
     if same(front(row, turn.at), front(last, ticking.size)) {
         let out = ticking.out;

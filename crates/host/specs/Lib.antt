@@ -1,4 +1,1 @@
-pub mod Mirror
-pub mod Keeping
 pub mod Host
-pub mod Code

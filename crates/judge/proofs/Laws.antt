@@ -24,8 +24,8 @@ use Rattle.judge.specs.declared.Order.the-variants as order
 use Rattle.judge.specs.declared.Work.{Work}
 use Rattle.judge.specs.declared.Work.the-variants as work
 use Rattle.judge.specs.declared.Drive.the-variants as drive
-use Rattle.judge.specs.Judge.{heard, targetOf, reached, verbOf, listed, argument, optional, values, suits, permitted, componentOf, driving, going, ordered, judged, arguments, registersInRange}
-use Rattle.judge.specs.Promises.{Unheard, Takes, Range, Suits, Permitted, Reached, Listed, Suited, ByLink, Refusal, wrong-network, not-ours, not-listed, wrong-arguments, not-permitted, Level, Row, Asked}
+use Rattle.judge.specs.Judge.{heard, targetOf, reached, verbOf, listed, argument, optional, values, suits, permitted, componentOf, driving, going, ordered, commanded, judged, arguments, registersInRange}
+use Rattle.judge.specs.Promises.{Unheard, Takes, Range, Suits, Permitted, Reached, Listed, Suited, ByLink, Refusal, wrong-network, not-ours, not-listed, wrong-arguments, not-permitted, Level, Terms, Asked}
 use Rattle.judge.proofs.Checks.{heard-says, Aimed, aimed, reached-says, Number, numbered, listed-says, suits-says, permitted-says, component-says, component-is}
 use Rattle.judge.specs.Code.{numberOfOrder, Judged, JudgedExactly, NumberExactly, OnlyNineTo13, ChecksInOrder}
 
@@ -79,9 +79,9 @@ range [] c t e = absurd (omega arith)
 range (a ∷ []) c t e = absurd (omega arith)
 range (a ∷ b ∷ rest) c t e = (ap (λ x. x ∷ b ∷ rest) e, (omega arith, (omega arith, omega arith)))
 
--- A row that holds, by its three parts.
-pub row : {Comes When Says : Type 0} → Comes → When → Says → Row Comes When Says
-row comes when says = record { comes = comes; when = when; says = says }
+-- What a row asks, by its three parts.
+pub terms : {Comes When Says : Type 0} → Comes → When → Says → Terms Comes When Says
+terms comes when says = record { comes = comes; when = when; says = says }
 
 module _ (all : List ℕ) (mode : Mode) (h : Header) where
   module _ (m : List ℕ) where
@@ -89,23 +89,23 @@ module _ (all : List ℕ) (mode : Mode) (h : Header) where
     accepted : (v : Verb) (t : Target) → Aimed t all h → reached t ≡ true → Number v (argument m 0)
         → Reached all h → Suits v m → Permitted v all mode h → Judged (ordered v t m) all mode h m
     unfolding ordered
-    accepted Open t a z n r s p = record { reached = r; asked = row (p .0) (p .1) (two m _ s n) }
-    accepted Close t a z n r s p = record { reached = r; asked = row (p .0) (p .1) (none m _ s n) }
-    accepted Get t a z n r s p = record { reached = r; asked = row p tt (two m _ (s .0) n, s .1) }
-    accepted Set t a z n r s p = record { reached = r; asked = row (p .0) (p .1) (range m _ s n) }
-    accepted Activate t a z n r s p = record { reached = r; asked = row (component-says all h t a z p) tt (none m _ s n) }
-    accepted Deactivate t a z n r s p = record { reached = r; asked = row (component-says all h t a z p) tt (none m _ s n) }
-    accepted Goto t a z n r s p = record { reached = r; asked = row tt tt (inl (level m _ s n)) }
-    accepted FadeStart t a z n r s p = record { reached = r; asked = row tt tt (inr (level m _ s n, p)) }
-    accepted FadeStop t a z n r s p = record { reached = r; asked = row tt tt (none m _ s n) }
-    accepted Blink t a z n r s p = record { reached = r; asked = row tt tt (value m _ s n) }
-    accepted Report t a z n r s p = record { reached = r; asked = row p tt (none m _ s n) }
-    accepted Store t a z n r s p = record { reached = r; asked = row (component-says all h t a z p) tt (none m _ s n) }
+    accepted Open t a z n r s p = record { reached = r; asked = terms (p .0) (p .1) (two m _ s n) }
+    accepted Close t a z n r s p = record { reached = r; asked = terms (p .0) (p .1) (none m _ s n) }
+    accepted Get t a z n r s p = record { reached = r; asked = terms p tt (two m _ (s .0) n, s .1) }
+    accepted Set t a z n r s p = record { reached = r; asked = terms (p .0) (p .1) (range m _ s n) }
+    accepted Activate t a z n r s p = record { reached = r; asked = terms (component-says all h t a z p) tt (none m _ s n) }
+    accepted Deactivate t a z n r s p = record { reached = r; asked = terms (component-says all h t a z p) tt (none m _ s n) }
+    accepted Goto t a z n r s p = record { reached = r; asked = terms tt tt (inl (level m _ s n)) }
+    accepted FadeStart t a z n r s p = record { reached = r; asked = terms tt tt (inr (level m _ s n, p)) }
+    accepted FadeStop t a z n r s p = record { reached = r; asked = terms tt tt (none m _ s n) }
+    accepted Blink t a z n r s p = record { reached = r; asked = terms tt tt (value m _ s n) }
+    accepted Report t a z n r s p = record { reached = r; asked = terms p tt (none m _ s n) }
+    accepted Store t a z n r s p = record { reached = r; asked = terms (component-says all h t a z p) tt (none m _ s n) }
     accepted Unlisted t a z n r s p = absurd p
 
     -- What is judged meets its row of the table, or its command's sentence.
     pub given : Judged (judged all mode h m) all mode h m
-    unfolding judged
+    unfolding judged commanded
     given =
         let row : Order → Type 0 = λ o. Judged o all mode h m in
         let n = argument m 0 in
@@ -140,7 +140,7 @@ module _ (all : List ℕ) (mode : Mode) (h : Header) where
 
   -- A row of the table whose condition holds is what is answered.
   refused : (n : ℕ) (m : List ℕ) → Refusal all mode h m n → judged all mode h m ≡ order.Refused n
-  unfolding judged
+  unfolding judged commanded
   refused n m (wrong-network u) = rw (heard-says all h .1 u)
   refused n m (not-ours hears u) = rw (yes (heard all (h .network)) (heard-says all h) hears, reached-says all h .1 u)
   refused n m (not-listed r u) = rw (hearing r, reaching r, listed-says (argument m 0) .1 u)
@@ -156,7 +156,7 @@ module _ (all : List ℕ) (mode : Mode) (h : Header) where
   -- A packet that passes every check is answered by its order.
   passes : (m : List ℕ) (v : Verb) → verbOf (argument m 0) ≡ v → listed v ≡ true → Reached all h → Suits v m → Permitted v all mode h
       → judged all mode h m ≡ ordered v (targetOf all h) m
-  unfolding judged
+  unfolding judged commanded
   passes m v n l r s p =
       rw (n, hearing r, reaching r, l, suits-says v m .1 s, permitted-says all h v mode (targetOf all h) (aimed all h) (reaching r) .1 p)
 
@@ -219,7 +219,7 @@ number-exactly n all mode h m z = (
 
 -- The examples.
 pub in-order : ChecksInOrder
-unfolding judged verbOf suits arguments registersInRange
+unfolding judged commanded verbOf suits arguments registersInRange
 in-order all mode h r =
     let heard = hearing all mode h r in
     let there = reaching all mode h r in

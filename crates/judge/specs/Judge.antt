@@ -197,14 +197,18 @@ ordered Report target message = order.Work work.Report
 ordered Store target message = order.Work (work.Store (componentOf target))
 ordered Unlisted target message = order.Refused 11
 
--- 01, Answer numbers, 1: the checks 9 to 13, rising. 14 comes with the password.
+-- 01, Answer numbers, 1: the checks 11 to 13, rising, of a command from this source for this target. 14 comes with the password.
+unfoldable pub commanded : List ℕ → Mode → ℕ → Target → Verb → List ℕ → Order
+commanded all mode source target verb message =
+    if not (listed verb) then order.Refused 11
+    else if not (suits verb message) then order.Refused 12
+    else if not (permitted verb target mode source (optionsOf (dimmingIn all) .capable)) then order.Refused 13
+    else ordered verb target message
+
+-- 01, Answer numbers, 1: the checks 9 to 13, rising: 9 and 10 are about the packet, the rest about its command.
 unfoldable pub judged : List ℕ → Mode → Header → List ℕ → Order
 judged all mode header message =
     let target = targetOf all header in
-    let verb = verbOf (argument message 0) in
     if not (heard all (header .network)) then order.Refused 9
     else if not (reached target) then order.Refused 10
-    else if not (listed verb) then order.Refused 11
-    else if not (suits verb message) then order.Refused 12
-    else if not (permitted verb target mode (header .source) (optionsOf (dimmingIn all) .capable)) then order.Refused 13
-    else ordered verb target message
+    else commanded all mode (header .source) target (verbOf (argument message 0)) message

@@ -124,13 +124,13 @@ ByLink i all h = (h .link ≡ true) × (found all (h .destination) ≡ At i)
 abbrev pub Level : ℕ → ℕ → ℕ → List ℕ → Type 0
 Level command level rate m = (m ≡ command ∷ level ∷ rate ∷ []) ⊎ ((m ≡ command ∷ level ∷ []) × (rate ≡ 255))
 
--- A row of the table below: the packets that a command comes by, the modes that it comes in, and the messages that ask for it.
-pub record Row (Comes When Says : Type 0) : Type 0 where
+-- What a row of `Asked` asks: the packets that a command comes by, the modes that it comes in, and the messages that ask for it.
+pub record Terms (Comes When Says : Type 0) : Type 0 where
   pub comes : Comes
   pub when : When
   pub says : Says
 
--- What a row leaves open.
+-- What a row of `Asked` leaves open: any packet, any mode.
 abbrev pub Any : Type 0
 Any = Unit {0}
 
@@ -138,17 +138,17 @@ Any = Unit {0}
 -- or by any way; Start Setup comes in Normal, Set and Stop Setup in Setup, the rest in any mode.
 abbrev pub Asked : Order → List ℕ → Mode → Header → List ℕ → Type 0
 Asked (order.Refused n) all mode h m = ⊥
-Asked (order.Guess guess) all mode h m = Row (ToUs all h) (mode ≡ Normal) (m ≡ 0x03 ∷ guess .0 ∷ guess .1 ∷ [])
-Asked (order.Read first count) all mode h m = Row (AskedToReply all h) Any ((m ≡ 0x10 ∷ first ∷ count ∷ []) × Range first count)
-Asked (order.Work work.Report) all mode h m = Row (AskedToReply all h) Any (m ≡ 0x30 ∷ [])
-Asked (order.Work work.Close) all mode h m = Row (h .link ≡ false) (mode ≡ Setup) (m ≡ 0x04 ∷ [])
-Asked (order.Work (work.Set first)) all mode h m = Row (ToUs all h) (mode ≡ Setup) ((m ≡ 0x11 ∷ first ∷ drop 2 m) × Range first (length (drop 2 m)))
-Asked (order.Work (work.Store i)) all mode h m = Row (ByLink i all h) Any (m ≡ 0x31 ∷ [])
-Asked (order.Work (work.Drive (drive.Activate i))) all mode h m = Row (ByLink i all h) Any (m ≡ 0x20 ∷ [])
-Asked (order.Work (work.Drive (drive.Deactivate i))) all mode h m = Row (ByLink i all h) Any (m ≡ 0x21 ∷ [])
-Asked (order.Work (work.Drive (drive.Goto level rate))) all mode h m = Row Any Any (Level 0x22 level rate m ⊎ (Level 0x23 level rate m × Capable all))
-Asked (order.Work (work.Drive drive.Stop)) all mode h m = Row Any Any (m ≡ 0x24 ∷ [])
-Asked (order.Work (work.Drive (drive.Blink value))) all mode h m = Row Any Any ((m ≡ 0x25 ∷ value ∷ []) ⊎ ((m ≡ 0x25 ∷ []) × (value ≡ 0)))
+Asked (order.Guess guess) all mode h m = Terms (ToUs all h) (mode ≡ Normal) (m ≡ 0x03 ∷ guess .0 ∷ guess .1 ∷ [])
+Asked (order.Read first count) all mode h m = Terms (AskedToReply all h) Any ((m ≡ 0x10 ∷ first ∷ count ∷ []) × Range first count)
+Asked (order.Work work.Report) all mode h m = Terms (AskedToReply all h) Any (m ≡ 0x30 ∷ [])
+Asked (order.Work work.Close) all mode h m = Terms (h .link ≡ false) (mode ≡ Setup) (m ≡ 0x04 ∷ [])
+Asked (order.Work (work.Set first)) all mode h m = Terms (ToUs all h) (mode ≡ Setup) ((m ≡ 0x11 ∷ first ∷ drop 2 m) × Range first (length (drop 2 m)))
+Asked (order.Work (work.Store i)) all mode h m = Terms (ByLink i all h) Any (m ≡ 0x31 ∷ [])
+Asked (order.Work (work.Drive (drive.Activate i))) all mode h m = Terms (ByLink i all h) Any (m ≡ 0x20 ∷ [])
+Asked (order.Work (work.Drive (drive.Deactivate i))) all mode h m = Terms (ByLink i all h) Any (m ≡ 0x21 ∷ [])
+Asked (order.Work (work.Drive (drive.Goto level rate))) all mode h m = Terms Any Any (Level 0x22 level rate m ⊎ (Level 0x23 level rate m × Capable all))
+Asked (order.Work (work.Drive drive.Stop)) all mode h m = Terms Any Any (m ≡ 0x24 ∷ [])
+Asked (order.Work (work.Drive (drive.Blink value))) all mode h m = Terms Any Any ((m ≡ 0x25 ∷ value ∷ []) ⊎ ((m ≡ 0x25 ∷ []) × (value ≡ 0)))
 
 -- An order that is to be done: the packet passes 9 and 10, and the order's row holds of it.
 pub record Accepted (o : Order) (all : List ℕ) (mode : Mode) (h : Header) (m : List ℕ) : Type 0 where

@@ -2,7 +2,7 @@
 // switch's own password does not come here.
 ghost use mathlib.Core.Path.{_≡_};
 ghost use Rattle.vault.specs.Vault.{inSetup};
-ghost use Rattle.judge.specs.Judge.{heard, directly, matching, targetOf, reached, verbOf, listed, argument, arguments, registersInRange, values, suits, toUs, directTo, byLink, isNormal, permitted, componentOf, optional, driving, going, ordered, judged};
+ghost use Rattle.judge.specs.Judge.{heard, directly, matching, targetOf, reached, verbOf, listed, argument, arguments, registersInRange, values, suits, toUs, directTo, byLink, isNormal, permitted, componentOf, optional, driving, going, ordered, commanded, judged};
 use dimmer::Options;
 use packet::Header;
 use registers::Found;
@@ -79,6 +79,20 @@ pub fn judge(all: &[u8; 256], mode: Mode, header: Header, message: &[u8]) -> Ord
         return Order::Refused(10);
     }
     let verb = verb_of(argument(message, 0));
+    commanded(all, mode, header.source, target, verb, message)
+}
+
+// The checks from 11 on.
+fn commanded(
+    all: &[u8; 256],
+    mode: Mode,
+    source: u8,
+    target: Target,
+    verb: Verb,
+    message: &[u8],
+) -> Order
+    ensures { λ r. ⌜ r ≡ commanded (now (all .entry)) mode source target verb (now (message .entry)) ⌝ }
+{
     if !verb.listed() {
         return Order::Refused(11);
     }
@@ -86,7 +100,7 @@ pub fn judge(all: &[u8; 256], mode: Mode, header: Header, message: &[u8]) -> Ord
         return Order::Refused(12);
     }
     let options = Options::of(registers::places::dimming(all));
-    if !verb.permitted(target, mode, header.source, options.capable) {
+    if !verb.permitted(target, mode, source, options.capable) {
         return Order::Refused(13);
     }
     verb.ordered(target, message)

@@ -11,7 +11,8 @@ use Rattle.lamp.specs.declared.Colour.{Colour}
 use Rattle.lamp.specs.declared.Colour.the-variants.{Black, Red, Green, Orange}
 use Rattle.vault.specs.declared.Mode.{Mode}
 use Rattle.vault.specs.declared.Mode.the-variants.{Normal, Setup, Factory}
-use Rattle.switch.specs.declared.Sent.{Sent}
+use Rattle.model.specs.Model.{place}
+use Rattle.post.specs.declared.outbox.Sent.{Sent}
 use Rattle.switch.specs.declared.Answer.{Answer}
 
 -- A page: lent bytes, and the place where the next one goes.
@@ -81,38 +82,46 @@ state a =
     spaced (digits (a .level .0))
     ++ (spaced (digits (a .output .0)) ++ (spaced (colourWord (a .colour)) ++ spaced (modeWord (a .mode))))
 
--- The packet in the first place of the buffer.
-abbrev pub packet0 : Sent → List ℕ → List ℕ
-packet0 sent out = take (sent .first) out
+-- Packets in hex, a comma before each: their lengths, and the buffer from the place of the first of them on.
+unfoldable pub more : List ℕ → List ℕ → List ℕ
+more [] out = []
+more (size ∷ sizes) out = word "," ++ (hexOf (take size out) ++ more sizes (drop place out))
 
--- The packet in the second place, which begins at byte 24.
-abbrev pub packet1 : Sent → List ℕ → List ℕ
-packet1 sent out = take (sent .second) (drop 24 out)
+-- Packets in hex with a comma between them, or a dash where there are none.
+unfoldable pub joined : List ℕ → List ℕ → List ℕ
+joined [] out = word "-"
+joined (size ∷ sizes) out = hexOf (take size out) ++ more sizes (drop place out)
 
--- SENT: the packets in hex with a comma between them, or a dash.
+-- SENT: as many packets as were sent, each in its place.
 unfoldable pub packets : Sent → List ℕ → List ℕ
-packets sent out =
-    if eqb (sent .count) 0 then word "-"
-    else if eqb (sent .count) 1 then hexOf (packet0 sent out)
-    else hexOf (packet0 sent out) ++ (word "," ++ hexOf (packet1 sent out))
+packets sent out = joined (take (sent .count) (sent .lengths)) out
 
--- The bytes of the buffer outside the packets: what stands behind each in its place; one that was not sent has no bytes.
-abbrev pub outside : Sent → List ℕ → List ℕ
-outside sent out = drop (sent .first) (take 24 out) ++ drop (sent .second) (drop 24 out)
+-- The bytes of the buffer outside the packets: what stands behind each in its place, and behind the places; one that was not sent has no bytes.
+unfoldable pub outside : List ℕ → List ℕ → List ℕ
+outside [] out = out
+outside (size ∷ sizes) out = drop size (take place out) ++ outside sizes (drop place out)
 
--- All bytes are 0xAA still, as before the event.
+-- What each byte of the buffer is before the event.
+abbrev pub fill : ℕ
+fill = 0xAA
+
+-- All bytes are so still.
 unfoldable pub untouched : List ℕ → Bool
 untouched [] = true
-untouched (byte ∷ bytes) = eqb byte 0xAA && untouched bytes
+untouched (byte ∷ bytes) = eqb byte fill && untouched bytes
 
 -- A last word, where a byte outside the packets is another.
 unfoldable pub spilt : Sent → List ℕ → List ℕ
-spilt sent out = if untouched (outside sent out) then [] else word " spilt"
+spilt sent out = if untouched (outside (sent .lengths) out) then [] else word " spilt"
 
--- NUMBER COUNT LEN0 LEN1: the number of the answer, how many packets, and their lengths.
+-- Numbers, each behind a space.
+unfoldable pub listed : List ℕ → List ℕ
+listed [] = []
+listed (n ∷ rest) = spaced (digits n) ++ listed rest
+
+-- NUMBER COUNT and the lengths: the number of the answer, how many packets, and the length of each place's.
 unfoldable pub counts : ℕ → Sent → List ℕ
-counts number sent =
-    digits number ++ (spaced (digits (sent .count)) ++ (spaced (digits (sent .first)) ++ spaced (digits (sent .second))))
+counts number sent = digits number ++ (spaced (digits (sent .count)) ++ listed (sent .lengths))
 
 -- What is written of an event behind its letter, from NUMBER to SENT.
 unfoldable pub row : Answer → List ℕ → List ℕ

@@ -1,15 +1,18 @@
 // What is written of each line of a script, on a page: lent bytes, and the place where the next one goes. Each function answers
 // the place behind what it wrote; what has no room is left out.
 ghost use mathlib.Core.Path.{_≡_};
-ghost use Prim.Native.Nat.{_<_};
+ghost use Prim.Native.Nat.{_<_, _≤_};
 ghost use mathlib.Core.List.{[], _∷_};
-ghost use lib.ListN.{take, drop};
+ghost use lib.ListN.{length, take, drop};
+ghost use Rattle.model.specs.Model.{paddleCount};
 ghost use Rattle.line.specs.Writing.{pageOf, puts, word, digits, hexDigit, hexOf, spaced, colourWord, modeWord};
-ghost use Rattle.line.specs.Writing.{state, packets, outside, untouched, spilt, counts, row, started, answered, run, dump, none, unread};
+ghost use Rattle.line.specs.Writing.{state, joined, packets, outside, untouched, spilt, listed, counts, row, started, answered, run, dump, none, unread};
 use lamp::Colour;
+use model::PADDLES;
+use model::PLACE;
+use model::ROOM;
+use post::outbox::Sent;
 use switch::Answer;
-use switch::Sent;
-use switch::paddles::PLACE;
 use vault::Mode;
 
 // What the buffer is filled with before every event.
@@ -92,10 +95,24 @@ pub fn row(page: &mut [u8], at: usize, answer: Answer, out: &[u8]) -> usize
 fn counts(page: &mut [u8], at: usize, number: u8, sent: Sent) -> usize
     ensures { λ r. ⌜ pageOf (now (page .exit)) r ≡ puts (counts number sent) (pageOf (now (page .entry)) at) ⌝ }
 {
+    let lengths = sent.lengths;
     let numbered = decimal(page, at, number as u64);
     let counted = spaced(page, numbered, sent.count as u64);
-    let first = spaced(page, counted, sent.first as u64);
-    spaced(page, first, sent.second as u64)
+    listed(page, counted, &lengths)
+}
+
+// Each number behind a space.
+fn listed(page: &mut [u8], at: usize, numbers: &[u8]) -> usize
+    ensures { λ r. ⌜ pageOf (now (page .exit)) r ≡ puts (listed (now (numbers .entry))) (pageOf (now (page .entry)) at) ⌝ }
+{
+    let mut next = at;
+    let mut i = 0;
+    while i < numbers.len() {
+        let number = numbers[i];
+        next = spaced(page, next, number as u64);
+        i += 1;
+    }
+    next
 }
 
 // Level, output, colour and mode.
@@ -131,19 +148,33 @@ fn mode_word(page: &mut [u8], at: usize, mode: Mode) -> usize
     }
 }
 
-// The packets that lie in the buffer.
+// As many packets as were sent.
 fn packets(page: &mut [u8], at: usize, sent: Sent, out: &[u8]) -> usize
     ensures { λ r. ⌜ pageOf (now (page .exit)) r ≡ puts (packets sent (now (out .entry))) (pageOf (now (page .entry)) at) ⌝ }
 {
-    if sent.count == 0 {
+    let lengths = sent.lengths;
+    joined(page, at, front(&lengths, sent.count as usize), out)
+}
+
+// The packets that lie in the buffer, each in its place, with a comma between them.
+fn joined(page: &mut [u8], at: usize, sizes: &[u8], out: &[u8]) -> usize
+    requires { ⌜ length (now sizes) ≤ paddleCount ⌝ }
+    ensures { λ r. ⌜ pageOf (now (page .exit)) r ≡ puts (joined (now (sizes .entry)) (now (out .entry))) (pageOf (now (page .entry)) at) ⌝ }
+{
+    if sizes.len() == 0 {
         return put(page, at, b'-');
     }
-    let first = hex(page, at, front(out, sent.first as usize));
-    if sent.count == 1 {
-        return first;
+    let first = sizes[0];
+    let mut next = hex(page, at, front(out, first as usize));
+    let mut i = 1;
+    while i < sizes.len() {
+        let size = sizes[i];
+        let comma = put(page, next, b',');
+        let place = behind(out, i * PLACE);
+        next = hex(page, comma, front(place, size as usize));
+        i += 1;
     }
-    let comma = put(page, first, b',');
-    hex(page, comma, front(behind(out, PLACE), sent.second as usize))
+    next
 }
 
 fn spilt(page: &mut [u8], at: usize, sent: Sent, out: &[u8]) -> usize
@@ -155,14 +186,21 @@ fn spilt(page: &mut [u8], at: usize, sent: Sent, out: &[u8]) -> usize
     text(page, at, b" spilt")
 }
 
-// Whether all bytes outside the packets are as they were.
+// Whether all bytes outside the packets are as they were: in each place those behind its packet, and those behind the places.
 fn kept(sent: Sent, out: &[u8]) -> bool
-    ensures { λ r. ⌜ r ≡ untouched (outside sent (now (out .entry))) ⌝ }
+    ensures { λ r. ⌜ r ≡ untouched (outside (sent .lengths) (now (out .entry))) ⌝ }
 {
-    if untouched(behind(front(out, PLACE), sent.first as usize)) {
-        return untouched(behind(behind(out, PLACE), sent.second as usize));
+    let lengths = sent.lengths;
+    let mut i = 0;
+    while i < PADDLES {
+        let place = front(behind(out, i * PLACE), PLACE);
+        let length = lengths[i] as usize;
+        if !untouched(behind(place, length)) {
+            return false;
+        }
+        i += 1;
     }
-    false
+    untouched(behind(out, ROOM))
 }
 
 // It looks at every byte and has no way out before the end: a large buffer is looked through many bytes at a time.

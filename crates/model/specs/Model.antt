@@ -7,12 +7,12 @@ use Rattle.paddle.specs.declared.Contact.{Contact}
 use Rattle.paddle.specs.declared.Contact.the-variants.{Local, Slave}
 
 -- 01, Registers, 3: two paddles; number 0 is the top, 1 the bottom.
-abbrev pub paddles : ℕ
-paddles = 2
+abbrev pub paddleCount : ℕ
+paddleCount = 2
 
 -- 01, Events and time, 2 and 01, Answer numbers, row 3: four contacts, numbered from 0.
-abbrev pub contacts : ℕ
-contacts = 4
+abbrev pub contactCount : ℕ
+contactCount = 4
 
 -- 01, Events and time, 2: contacts 0 and 2 are the top paddle's, 1 and 3 the bottom's.
 unfoldable pub paddleOf : ℕ → ℕ
@@ -32,11 +32,11 @@ drives paddle = ltb paddle 2
 
 -- 01, Registers, 3: where a paddle's transmit component begins; each has five bytes.
 abbrev pub transmitPlace : ℕ → ℕ
-transmitPlace paddle = 0x70 + 5 * (paddle % paddles)
+transmitPlace paddle = 0x70 + 5 * (paddle % paddleCount)
 
 -- 01, Registers, 4: where a paddle's two actions begin, each a level with its rate.
 abbrev pub actionPlace : ℕ → ℕ
-actionPlace paddle = 0x7A + 4 * (paddle % paddles)
+actionPlace paddle = 0x7A + 4 * (paddle % paddleCount)
 
 -- 01, Events and time, 5: the bytes of a place of the answer buffer.
 abbrev pub place : ℕ
@@ -44,4 +44,4 @@ place = 24
 
 -- 01, Events and time, 5: the least buffer of an event, with a place for each packet that it can send: one for each paddle.
 abbrev pub room : ℕ
-room = paddles * place
+room = paddleCount * place

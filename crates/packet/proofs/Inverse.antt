@@ -70,7 +70,7 @@ balance-only front last byte zero = omega (arith, rw total-append at zero)
 
 -- Reading what was written gives back header and message.
 pub reads-back : ReadsBack
-unfolding packed headBytes headerIn messageOf
+unfolding packed headBytes headerIn
 reads-back h m r =
     let n = length (packed h m) in
     let long : n ≡ length m + 6 = packed-length h m in
@@ -95,7 +95,7 @@ reads-back h m r =
         source = h .source;
       };
     } in
-    (header, rw header (take-at m (balance (total (headBytes h (length m) m) % 256) ∷ []) (n - 6) (omega arith)))
+    (header, message-is (packed h m) h header ∙ take-at m (balance (total (headBytes h (length m) m) % 256) ∷ []) (n - 6) (omega arith))
 
 -- A list of five bytes and more is its first five and the rest.
 five : (p : List ℕ) → 5 ≤ length p → getD p 0 0 ∷ getD p 1 0 ∷ getD p 2 0 ∷ getD p 3 0 ∷ getD p 4 0 ∷ drop 5 p ≡ p

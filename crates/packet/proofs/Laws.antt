@@ -4,7 +4,7 @@ use native.Mathlib.Omega.{arith}
 use mathlib.Core.Bool.{true, not, false≢true, and-eq-true-iff}
 use mathlib.Core.List.{List, [], _∷_, _++_}
 use mathlib.Core.Path.{_≡_, refl, sym, ap, _∙_, subst}
-use borrow.Author.Tests.{ltb-true, ltb-false, leb-true, eqb-true, eqb-false, not-true, not-false}
+use borrow.Author.Tests.{le-ltb, ltb-true, ltb-false, leb-true, eqb-true, eqb-false, not-true, not-false}
 use lib.Dec.{ltb, eqb}
 use lib.ListN.{length, getD, take, drop, length-append, length-take, length-drop}
 use types.Run.{OneOf, miss}
@@ -17,7 +17,7 @@ use Rattle.packet.specs.declared.Frame.the-variants.{Read, Short, Long, 
 use Rattle.packet.specs.declared.Written.{Written}
 use Rattle.packet.specs.declared.Written.the-variants as written
 use Rattle.packet.specs.Layout.{headerIn, wholeIn, reservedIn, headBytes, total, packed}
-use Rattle.packet.specs.Reading.{readOf, numberOfFrame, messageOf}
+use Rattle.packet.specs.Reading.{readOf, numberOfFrame, messageFrom, messageOf}
 use Rattle.packet.specs.Writing.{fieldsInRange, writtenOf, numberOfWritten, laid, Wrote}
 use Rattle.packet.specs.Promises.{Sized, Counted, Summed, Reads, Sound, ReadExactly, Ranges, GivenWritten, WrittenExactly, WritesOneWay}
 use Rattle.packet.specs.Promises.{ReadRow, done, too-short, too-long, wrong-length, wrong-sum, reserved-bit, WrittenRow, whole, out-of-range, no-room}
@@ -104,7 +104,7 @@ sound p h = exactly .answer (Read h) p .0
 -- The message of a packet that is read stands between the five bytes of the header and the checksum.
 pub message-is : (p : List ℕ) (h : Header) → readOf p ≡ Read h → messageOf p ≡ take (length p - 6) (drop 5 p)
 unfolding messageOf
-message-is p h e = rw e
+message-is p h e = rw (e, le-ltb (length p) 7 (sound p h e .least))
 
 -- It is six bytes shorter than the packet.
 pub message-length : (p : List ℕ) (h : Header) → readOf p ≡ Read h → length (messageOf p) + 6 ≡ length p
@@ -113,9 +113,17 @@ message-length p h e =
     rw (message-is p h e, length-take, length-drop) (omega arith)
 
 -- The message of a refused packet is empty.
+pub from-refused : (f : Frame) (p : List ℕ) → (numberOfFrame f ≡ 0 → ⊥) → messageFrom f p ≡ []
+from-refused (Read h) p refused = absurd (refused refl)
+from-refused Short p refused = refl
+from-refused Long p refused = refl
+from-refused Length p refused = refl
+from-refused Sum p refused = refl
+from-refused Reserved p refused = refl
+
 pub message-refused : (p : List ℕ) → (numberOfFrame (readOf p) ≡ 0 → ⊥) → messageOf p ≡ []
 unfolding messageOf
-message-refused p refused = search tests
+message-refused p refused = from-refused (readOf p) p refused
 
 -- The writer's ranges, each by itself.
 pub ranges : (h : Header) (size : ℕ) → fieldsInRange h size ≡ true → Ranges h size

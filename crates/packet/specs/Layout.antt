@@ -76,6 +76,20 @@ headBytes h size rest =
     ∷ h .source
     ∷ rest
 
+-- 01, Packet layout (H), 5: a sent header asks for nothing: request, count and sequence are 0, and so is repeat (decision 45).
+abbrev pub header : Bool → ℕ → ℕ → ℕ → Header
+header link network destination source =
+    record {
+      link = link;
+      repeat = 0;
+      request = 0;
+      count = 0;
+      sequence = 0;
+      network = network;
+      destination = destination;
+      source = source;
+    }
+
 -- 01, Packet layout (H), 3: the whole packet is the five bytes of the header, the message, and the checksum over both.
 unfoldable pub packed : Header → List ℕ → List ℕ
 packed h message =

@@ -12,7 +12,7 @@ use Rattle.packet.specs.declared.Frame.{Frame}
 use Rattle.packet.specs.declared.Frame.the-variants.{Read, Short, Long, Length, Sum, Reserved}
 use Rattle.packet.specs.declared.Written.{Written}
 use Rattle.packet.specs.declared.Written.the-variants as written
-use Rattle.packet.specs.Layout.{wholeIn, reservedIn, headerIn, total, packed}
+use Rattle.packet.specs.Layout.{header, wholeIn, reservedIn, headerIn, total, packed}
 use Rattle.packet.specs.Reading.{readOf, numberOfFrame, messageOf}
 use Rattle.packet.specs.Writing.{writtenOf, numberOfWritten, Wrote}
 
@@ -115,23 +115,9 @@ WritesBackLent =
     → Bytes p → readOf p ≡ Read h → length p ≤ length before → Wrote h (messageOf p) before answer after
     → (answer ≡ written.Packet (length p)) × ((take (length p) after ≡ p) × (drop (length p) after ≡ drop (length p) before))
 
--- A direct packet's header with 0 in every field of fewer than eight bits.
-abbrev pub directHeader : ℕ → ℕ → ℕ → Header
-directHeader network destination source =
-    record {
-      link = false;
-      repeat = 0;
-      request = 0;
-      count = 0;
-      sequence = 0;
-      network = network;
-      destination = destination;
-      source = source;
-    }
-
 -- 01, Numbers to test by, 2 (a) and 5 (e): the request of (a) is read, its reply is written, and the request with a wrong last byte is 7.
 pub record WorkedPackets : Type 0 where
-  pub asked : readOf (0x07 ∷ 0x00 ∷ 0x01 ∷ 0x05 ∷ 0x09 ∷ 0x30 ∷ 0xBA ∷ []) ≡ Read (directHeader 1 5 9)
+  pub asked : readOf (0x07 ∷ 0x00 ∷ 0x01 ∷ 0x05 ∷ 0x09 ∷ 0x30 ∷ 0xBA ∷ []) ≡ Read (header false 1 5 9)
   pub message : messageOf (0x07 ∷ 0x00 ∷ 0x01 ∷ 0x05 ∷ 0x09 ∷ 0x30 ∷ 0xBA ∷ []) ≡ 0x30 ∷ []
-  pub answer : packed (directHeader 1 9 5) (0x86 ∷ 0x28 ∷ []) ≡ 0x08 ∷ 0x00 ∷ 0x01 ∷ 0x09 ∷ 0x05 ∷ 0x86 ∷ 0x28 ∷ 0x3B ∷ []
+  pub answer : packed (header false 1 9 5) (0x86 ∷ 0x28 ∷ []) ≡ 0x08 ∷ 0x00 ∷ 0x01 ∷ 0x09 ∷ 0x05 ∷ 0x86 ∷ 0x28 ∷ 0x3B ∷ []
   pub damaged : numberOfFrame (readOf (0x07 ∷ 0x00 ∷ 0x01 ∷ 0x05 ∷ 0x09 ∷ 0x30 ∷ 0xBB ∷ [])) ≡ 7

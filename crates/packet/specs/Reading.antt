@@ -29,6 +29,16 @@ numberOfFrame Length = 6
 numberOfFrame Sum = 7
 numberOfFrame Reserved = 8
 
--- 01, Packet layout (H), 4: the message lies between the five bytes of the header and the checksum; where the reader refuses it is empty.
+-- 01, Packet layout (H), 4, for any frame and any bytes: the message lies between the five bytes of the header and the checksum; of
+-- a refusal, and of bytes that have no room for one, it is empty.
+abbrev pub messageFrom : Frame → List ℕ → List ℕ
+messageFrom (Read h) p = if ltb (length p) 7 then [] else take (length p - 6) (drop 5 p)
+messageFrom Short p = []
+messageFrom Long p = []
+messageFrom Length p = []
+messageFrom Sum p = []
+messageFrom Reserved p = []
+
+-- The message of a packet: by what the reader answers to it.
 unfoldable pub messageOf : List ℕ → List ℕ
-messageOf p = if eqb (numberOfFrame (readOf p)) 0 then take (length p - 6) (drop 5 p) else []
+messageOf p = messageFrom (readOf p) p

@@ -6,7 +6,7 @@ ghost use mathlib.Core.List.{_++_};
 ghost use lib.ListN.{length, drop};
 ghost use lib.Seq.{paste};
 ghost use Rattle.packet.specs.Layout.{wholeIn, reservedIn, headerIn, firstByte, secondByte, headBytes, total, balance, packed};
-ghost use Rattle.packet.specs.Reading.{readOf, numberOfFrame, messageOf};
+ghost use Rattle.packet.specs.Reading.{readOf, numberOfFrame, messageFrom};
 ghost use Rattle.packet.specs.Writing.{fieldsInRange, Wrote};
 
 // The shortest and the longest packet, and the longest message.
@@ -104,15 +104,18 @@ pub fn read(packet: &[u8]) -> Frame
     Frame::Read(header)
 }
 
-// The message, lent out of the caller's packet; empty where the reader refuses.
-pub fn message(packet: &[u8]) -> &[u8]
-    ensures { λ r. ⌜ now r ≡ messageOf (now (packet .entry)) ⌝ }
+// The message, lent out of the caller's packet, by what the reader answered to it; empty where that is a refusal.
+pub fn message(frame: Frame, packet: &[u8]) -> &[u8]
+    ensures { λ r. ⌜ now r ≡ messageFrom frame (now (packet .entry)) ⌝ }
 {
-    let frame = read(packet);
     let Frame::Read(_) = frame else {
         return &packet[..0];
     };
-    let checksum = packet.len() - 1;
+    let size = packet.len();
+    if size < LEAST {
+        return &packet[..0];
+    }
+    let checksum = size - 1;
     &packet[HEAD..checksum]
 }
 

@@ -5,11 +5,11 @@ ghost use Rattle.paddle.specs.Paddle.{withContact, holdFrom, ended, endi
 ghost use Rattle.paddle.specs.Code.{turn, completesNothing};
 
 // Ticks from the press to Hold.
-const HOLD: u16 = 180;
+const HOLD: u8 = 180;
 // Ticks from a counted tap to the close of its run, if the paddle is up then.
-const GAP: u16 = 180;
+const GAP: u8 = 180;
 // A press of 60 ticks or more leaves at most this much of HOLD.
-const TAP: u16 = 120;
+const TAP: u8 = 120;
 // No more taps than this are counted.
 const MOST: u8 = 11;
 
@@ -31,8 +31,8 @@ pub enum Gesture {
 pub struct Paddle {
     pub local: bool,
     pub slave: bool,
-    pub hold: u16,
-    pub gap: u16,
+    pub hold: u8,
+    pub gap: u8,
     pub taps: u8,
 }
 
@@ -124,7 +124,7 @@ impl Paddle {
     }
 
     // The ticks left before Hold once a contact is pressed.
-    fn begun(self) -> u16
+    fn begun(self) -> u8
         ensures { λ r. ⌜ r ≡ holdFrom self ⌝ }
     {
         if self.down() {
@@ -201,17 +201,17 @@ impl Paddle {
             local: self.local,
             slave: self.slave,
             hold: self.left(),
-            gap: timers::run(self.gap),
+            gap: timers::run_byte(self.gap),
             taps: self.kept(),
         }
     }
 
     // Hold comes nearer only while the paddle is down.
-    fn left(self) -> u16
+    fn left(self) -> u8
         ensures { λ r. ⌜ r ≡ left self ⌝ }
     {
         if self.down() {
-            return timers::run(self.hold);
+            return timers::run_byte(self.hold);
         }
         self.hold
     }

@@ -11,7 +11,7 @@ use lib.Seq.{drop-append-le, take-all, take-append-add, drop-append-add}
 use Rattle.words.specs.Words.{if_then_else_}
 use Rattle.words.proofs.Laws.{tests, both, one-outcome, two-ways}
 use Rattle.units.specs.declared.Percent.{Percent}
-use Rattle.packet.specs.Layout.{packed}
+use Rattle.packet.specs.Layout.{header, packed}
 use Rattle.packet.specs.Promises.{Ranges}
 use Rattle.packet.specs.declared.Header.{Header}
 use Rattle.packet.proofs.Laws.{packed-length}
@@ -23,7 +23,7 @@ use Rattle.post.specs.declared.Message.the-variants.{Empty, One, Two, Th
 use Rattle.post.specs.declared.Note.{Note}
 use Rattle.post.specs.declared.Reply.{Reply}
 use Rattle.post.specs.declared.Reply.the-variants.{Silence, Status, Registers}
-use Rattle.post.specs.Post.{header, headed, enveloped, bytesOf, gestureMessage, announced, valuesFrom, replyMessage, replied, placedOne, placed}
+use Rattle.post.specs.Post.{headed, enveloped, bytesOf, gestureMessage, announced, valuesFrom, replyMessage, replied, placedOne, placed}
 use Rattle.model.specs.Model.{place}
 use Rattle.post.specs.Code.{note, noNote, noteOf, noteHeader, sentOf, front, laidLength, Laid, placedAt, counted, NoteSent, LaysOneWay, PacketsInOrder}
 use Rattle.registers.proofs.Laws.{range-length}

@@ -11,7 +11,7 @@ use lib.ListN.{length, getD, take, drop, set, length-append, length-set, length-
 use lib.Seq.{take-suc, take-suc-set, take-all}
 use Rattle.words.proofs.Laws.{both, cases, one-outcome, two-ways}
 use Rattle.units.specs.declared.Percent.{Percent}
-use Rattle.model.specs.Model.{paddles, place}
+use Rattle.model.specs.Model.{paddleCount, place}
 use Rattle.packet.specs.declared.Header.{Header}
 use Rattle.registers.specs.declared.Seen.{Seen}
 use Rattle.post.specs.declared.Note.{Note}
@@ -56,7 +56,7 @@ unfolding lone tally
 lone-message h m =
     let size = length (front (enveloped h m)) in
     let few : length (enveloped h m) ≤ 1 = rw (message-count h m) (counted-few size) in
-    let lengths = lengths-next paddles [] (enveloped h m) few in
+    let lengths = lengths-next paddleCount [] (enveloped h m) few in
     let count = message-count h m in
     λ i. record { lengths = lengths i; count = sym count i }
 
@@ -92,7 +92,7 @@ unfolding packetsIn noted
 packets-none = refl
 
 -- A note put into a box that is not full adds its packets behind those before it.
-pub packets-more : (box : Outbox) (n : Note) → length (box .notes) ≡ paddles → box .count < paddles
+pub packets-more : (box : Outbox) (n : Note) → length (box .notes) ≡ paddleCount → box .count < paddleCount
     → packetsIn (boxed box n) ≡ packetsIn box ++ sentOf n
 unfolding boxed packetsIn counted
 packets-more box n whole room =
@@ -101,7 +101,7 @@ packets-more box n whole room =
     let none : sentOf n ≡ [] = nothing-sent (sentOf n) (note-count n ∙ rw e) in
     rw (none, append-nil (packetsIn box)))
     (λ e.
-    rw (lt-ltb (box .count) paddles room, add-one (box .count), take-suc-set (box .notes) (box .count) n (omega arith)) (noted-more (take (box .count) (box .notes)) n))
+    rw (lt-ltb (box .count) paddleCount room, add-one (box .count), take-suc-set (box .notes) (box .count) n (omega arith)) (noted-more (take (box .count) (box .notes)) n))
   where
     nothing-sent : (sent : List (List ℕ)) → length sent ≡ 0 → sent ≡ []
     nothing-sent [] e = refl
@@ -112,24 +112,24 @@ pub more-count : (box : Outbox) (n : Note) → boxed box n .count ≤ suc (box .
 unfolding boxed
 more-count box n =
     both (λ (b : Outbox). b .count ≤ suc (box .count)) (eqb (length (front (sentOf n))) 0) (omega arith)
-    (both (λ (b : Outbox). b .count ≤ suc (box .count)) (ltb (box .count) paddles) (omega arith) (omega arith))
+    (both (λ (b : Outbox). b .count ≤ suc (box .count)) (ltb (box .count) paddleCount) (omega arith) (omega arith))
 
 pub more-length : (box : Outbox) (n : Note) → length (boxed box n .notes) ≡ length (box .notes)
 unfolding boxed
 more-length box n =
     both (λ (b : Outbox). length (b .notes) ≡ length (box .notes)) (eqb (length (front (sentOf n))) 0) refl
-    (both (λ (b : Outbox). length (b .notes) ≡ length (box .notes)) (ltb (box .count) paddles) (length-set (box .notes) (box .count) n) refl)
+    (both (λ (b : Outbox). length (b .notes) ≡ length (box .notes)) (ltb (box .count) paddleCount) (length-set (box .notes) (box .count) n) refl)
 
 -- For a loop over the paddles: a box with these packets, that has taken one note at most from each of the first i of them.
 pub record Holds (i : ℕ) (packets : List (List ℕ)) (box : Outbox) : Type 0 where
-  pub whole : length (box .notes) ≡ paddles
+  pub whole : length (box .notes) ≡ paddleCount
   pub few : box .count ≤ i
   pub inside : packetsIn box ≡ packets
 
 pub holds-none : (box : Outbox) → box ≡ noNotes → Holds 0 [] box
 holds-none box e = rw e record { whole = refl; few = omega arith; inside = packets-none }
 
-pub holds-more : (i : ℕ) (packets : List (List ℕ)) (box box′ : Outbox) (n : Note) → Holds i packets box → i < paddles → box′ ≡ boxed box n
+pub holds-more : (i : ℕ) (packets : List (List ℕ)) (box box′ : Outbox) (n : Note) → Holds i packets box → i < paddleCount → box′ ≡ boxed box n
     → Holds (i + 1) (packets ++ sentOf n) box′
 holds-more i packets box box′ n h room e =
     rw e
@@ -143,10 +143,10 @@ holds-more i packets box box′ n h room e =
 pub record Underway (packets : List (List ℕ)) (before : List ℕ) (i count : ℕ) (lengths after : List ℕ) : Type 0 where
   pub reached : count ≡ length packets
   pub few : count ≤ i
-  pub sizes : lengths ≡ lengthsIn paddles packets
+  pub sizes : lengths ≡ lengthsIn paddleCount packets
   pub bytes : after ≡ placed packets before
 
-pub laying-begins : (notes : List Note) (before : List ℕ) → Underway (noted (take 0 notes)) before 0 0 (lengthsIn paddles []) before
+pub laying-begins : (notes : List Note) (before : List ℕ) → Underway (noted (take 0 notes)) before 0 0 (lengthsIn paddleCount []) before
 unfolding noted placed
 laying-begins notes before = record { reached = refl; few = omega arith; sizes = refl; bytes = refl }
 
@@ -184,17 +184,17 @@ module _ (notes : List Note) (before : List ℕ) (i count : ℕ) (lengths after 
       record {
         reached = rw (length-append packets (sentOf n), ← adds) (omega (arith, u .reached));
         few = omega (arith, note-few n, u .few);
-        sizes = rw (u .sizes, u .reached, long) (lengths-next paddles packets (sentOf n) (note-few n));
+        sizes = rw (u .sizes, u .reached, long) (lengths-next paddleCount packets (sentOf n) (note-few n));
         bytes = laid-from n (place * length packets) start answer after part from laid ∙ rw (u .bytes) (note-next n packets before);
       }
 
   -- After the last one all are laid.
-  pub laying-ends : (k : ℕ) → length notes ≡ paddles → i ≡ min k paddles
+  pub laying-ends : (k : ℕ) → length notes ≡ paddleCount → i ≡ min k paddleCount
       → Sends (packetsIn (record { count = k; notes = notes })) before (record { lengths = lengths; count = count }) after
   unfolding packetsIn tally
   laying-ends k whole last =
       let all : take i notes ≡ take k notes =
-      two-ways k paddles (λ fewer. let same : i ≡ k = omega arith in rw same)
+      two-ways k paddleCount (λ fewer. let same : i ≡ k = omega arith in rw same)
       (λ full. take-all i notes (omega arith) ∙ sym (take-all k notes (omega arith))) in
       rw (← all)
       record {

@@ -11,6 +11,7 @@ use Rattle.words.proofs.Laws.{both}
 use Rattle.units.specs.declared.Percent.{Percent}
 use Rattle.vault.specs.declared.Mode.{Mode}
 use Rattle.vault.specs.declared.Mode.the-variants.{Normal, Setup, Factory}
+use Rattle.packet.specs.Layout.{header}
 use Rattle.packet.specs.declared.Header.{Header}
 use Rattle.packet.proofs.Laws.{packed-length, message-length}
 use Rattle.packet.proofs.Inverse.{reads-back, worked}
@@ -22,7 +23,7 @@ use Rattle.registers.specs.Registers.{apart, valid}
 use Rattle.registers.specs.declared.Seen.{Seen}
 use Rattle.post.specs.declared.Reply.{Reply}
 use Rattle.post.specs.declared.Reply.the-variants.{Silence, Status, Registers}
-use Rattle.post.specs.Post.{header, headed, enveloped, bytesOf, gestureNumber, commandNumber, takesLevel, trimmed, chosen, gestureMessage, announced, valuesFrom, replyMessage, replied}
+use Rattle.post.specs.Post.{headed, enveloped, bytesOf, gestureNumber, commandNumber, takesLevel, trimmed, chosen, gestureMessage, announced, valuesFrom, replyMessage, replied}
 use Rattle.post.specs.Promises.{Each, Carries, AnnouncedReads, RepliedReads, Announces, Hides, CaseJ}
 use Rattle.registers.proofs.Laws.{apart-other, range-hidden, range-apart}
 use Rattle.post.proofs.Laws.{own-ranges, few-bytes, reply-most, note-sent}

@@ -8,7 +8,7 @@ use lib.ListN.{length, take, replicate, length-append, length-take}
 use lib.Seq.{take-at, length-take-le}
 use types.Run.{OneOf, miss}
 use denote.Enum.Declared.{tagOf}
-use Rattle.packet.specs.Layout.{packed}
+use Rattle.packet.specs.Layout.{header, packed}
 use Rattle.packet.specs.Writing.{Wrote, laid}
 use Rattle.packet.specs.declared.Header.{Header}
 use Rattle.packet.specs.declared.Written.{Written}
@@ -17,7 +17,7 @@ use Rattle.packet.proofs.Laws.{packed-length, written-length, exactly-written}
 use Rattle.packet.proofs.Written.{the-type}
 use Rattle.registers.specs.Registers.{rangeOf}
 use Rattle.registers.specs.declared.Seen.{Seen}
-use Rattle.post.specs.Post.{header, enveloped, valuesFrom}
+use Rattle.post.specs.Post.{enveloped, valuesFrom}
 use Rattle.registers.proofs.Laws.{range-length}
 use Rattle.post.proofs.Laws.{own-ranges, laid-short, placed-short, laid-whole, placed-whole, nothing-laid}
 use Rattle.post.specs.Code.{front, Laid}

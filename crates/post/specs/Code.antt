@@ -9,6 +9,7 @@ use Rattle.words.specs.Words.{if_then_else_}
 use Rattle.units.specs.declared.Percent.{Percent}
 use Rattle.units.specs.Units.{percent}
 use Rattle.vault.specs.declared.Mode.{Mode}
+use Rattle.packet.specs.Layout.{header}
 use Rattle.packet.specs.declared.Header.{Header}
 use Rattle.paddle.specs.declared.Gesture.{Gesture}
 use Rattle.registers.specs.Places.{networkIn, unitIn, transmitIn}
@@ -17,8 +18,8 @@ use Rattle.registers.specs.declared.Seen.{Seen}
 use Rattle.post.specs.declared.Message.{Message}
 use Rattle.post.specs.declared.Message.the-variants.{Empty}
 use Rattle.post.specs.declared.Note.{Note}
-use Rattle.post.specs.Post.{header, enveloped, bytesOf, gestureMessage, placedOne, announced, replied, placed, lengthsIn, tally}
-use Rattle.model.specs.Model.{paddles, place}
+use Rattle.post.specs.Post.{enveloped, bytesOf, gestureMessage, placedOne, announced, replied, placed, lengthsIn, tally}
+use Rattle.model.specs.Model.{paddleCount, place}
 use Rattle.post.specs.declared.Reply.the-variants.{Status}
 use Rattle.post.specs.declared.outbox.Sent.{Sent}
 use Rattle.post.specs.declared.outbox.Outbox.{Outbox}
@@ -89,7 +90,7 @@ PacketsInOrder =
 
 -- What is counted of one packet of so many bytes.
 unfoldable pub lone : ℕ → Sent
-lone size = record { lengths = set (lengthsIn paddles []) 0 size; count = counted size }
+lone size = record { lengths = set (lengthsIn paddleCount []) 0 size; count = counted size }
 
 -- The packets of notes in their order.
 unfoldable pub noted : List Note → List (List ℕ)
@@ -102,13 +103,13 @@ packetsIn box = noted (take (box .count) (box .notes))
 
 -- Nothing to send.
 abbrev pub noNotes : Outbox
-noNotes = record { count = 0; notes = replicate paddles noNote }
+noNotes = record { count = 0; notes = replicate paddleCount noNote }
 
 -- A box with one note more, behind the others; an empty note is none, and a full box stays as it is.
 unfoldable pub boxed : Outbox → Note → Outbox
 boxed box n =
     if eqb (length (front (sentOf n))) 0 then box
-    else if ltb (box .count) paddles then record { count = box .count + 1; notes = set (box .notes) (box .count) n }
+    else if ltb (box .count) paddleCount then record { count = box .count + 1; notes = set (box .notes) (box .count) n }
     else box
 
 -- What laying packets into a buffer promises: the count with the lengths, and every byte.

@@ -8,8 +8,8 @@ use Rattle.words.specs.Words.{if_then_else_}
 use Rattle.units.specs.declared.Percent.{Percent}
 use Rattle.vault.specs.declared.Mode.{Mode}
 use Rattle.vault.specs.declared.Mode.the-variants.{Normal, Setup, Factory}
-use Rattle.model.specs.Model.{paddles, place}
-use Rattle.packet.specs.Layout.{packed}
+use Rattle.model.specs.Model.{paddleCount, place}
+use Rattle.packet.specs.Layout.{header, packed}
 use Rattle.packet.specs.declared.Header.{Header}
 use Rattle.paddle.specs.declared.Gesture.{Gesture}
 use Rattle.paddle.specs.declared.Gesture.the-variants.{Nothing, Taps, Hold, Release}
@@ -23,20 +23,6 @@ use Rattle.post.specs.declared.Message.the-variants.{Empty, One, Two, Th
 use Rattle.post.specs.declared.Reply.{Reply}
 use Rattle.post.specs.declared.Reply.the-variants.{Silence, Status, Registers}
 use Rattle.post.specs.declared.outbox.Sent.{Sent}
-
--- 01, Packet layout (H), 5: a sent header asks for nothing: request, count and sequence are 0, and so is repeat (decision 45).
-abbrev pub header : Bool → ℕ → ℕ → ℕ → Header
-header link network destination source =
-    record {
-      link = link;
-      repeat = 0;
-      request = 0;
-      count = 0;
-      sequence = 0;
-      network = network;
-      destination = destination;
-      source = source;
-    }
 
 -- 01, Packet layout (H), 5: network and source are our own.
 abbrev pub headed : List ℕ → Bool → ℕ → Header
@@ -141,4 +127,4 @@ lengthsIn (suc n) (p ∷ rest) = length p ∷ lengthsIn n rest
 
 -- 01, Events and time, 7: how many packets were sent, and the length of each in its order.
 unfoldable pub tally : List (List ℕ) → Sent
-tally packets = record { lengths = lengthsIn paddles packets; count = length packets }
+tally packets = record { lengths = lengthsIn paddleCount packets; count = length packets }

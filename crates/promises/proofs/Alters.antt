@@ -12,6 +12,11 @@ use Rattle.words.specs.Words.{if_then_else_}
 use Rattle.words.proofs.Laws.{both, cases}
 use Rattle.units.specs.Units.{percentOf}
 use Rattle.units.specs.declared.Step.{Step}
+use Rattle.packet.specs.Reading.{messageOf, readOf}
+use Rattle.packet.specs.declared.Frame.{Frame}
+use Rattle.packet.specs.declared.Frame.the-variants as frame
+use Rattle.packet.specs.declared.Header.{Header}
+use Rattle.packet.proofs.Laws as packet
 use Rattle.vault.specs.Job.{Byte, Change, Outcome, Switch, Answered, answered, became, changed, done, kept, nothing, put, settled, over, followed}
 use Rattle.vault.specs.Product
 use Rattle.vault.specs.Vault.{inSetup, matches}
@@ -19,18 +24,13 @@ use Rattle.vault.specs.declared.Mode.{Mode}
 use Rattle.vault.specs.declared.Mode.the-variants.{Normal, Setup, Factory}
 use Rattle.vault.specs.declared.Password.{Password}
 use Rattle.vault.proofs.Laws.{matches-equal}
-use Rattle.dimmer.specs.Dimmer.{optionsOf}
-use Rattle.packet.specs.Reading.{messageOf, readOf}
-use Rattle.packet.specs.declared.Frame.{Frame}
-use Rattle.packet.specs.declared.Frame.the-variants as frame
-use Rattle.packet.specs.declared.Header.{Header}
-use Rattle.packet.proofs.Laws as packet
 use Rattle.paddle.specs.Paddle.{ending, freshPaddle, gesture, gestureUp, goesUp, withContact, nextPaddle}
 use Rattle.paddle.specs.declared.Contact.{Contact}
 use Rattle.paddle.specs.declared.Gesture.{Gesture}
 use Rattle.paddle.specs.declared.Gesture.the-variants as gestures
 use Rattle.paddle.specs.declared.Paddle.{Paddle}
-use Rattle.registers.specs.Places.{counterPlace, dimmingIn, levelPlace, savedPlace, secret, size}
+use Rattle.model.specs.Model.{kindOf, paddleOf, room, contactCount}
+use Rattle.registers.specs.Places.{counterPlace, levelPlace, savedPlace, secret, size}
 use Rattle.registers.specs.Registers.{imageOf}
 use Rattle.registers.specs.Write.{applied, byteAfter, byteSet, changeAt, changeOf, factoryAt, sets}
 use Rattle.registers.specs.declared.places.Counter.{Counter}
@@ -39,6 +39,7 @@ use Rattle.registers.specs.declared.write.Write.{Write}
 use Rattle.registers.specs.declared.write.Write.the-variants as write
 use Rattle.registers.proofs.Laws.{by-secret}
 use Rattle.registers.proofs.Writing.{image-after, write-length}
+use Rattle.registers.specs.declared.Seen.the-variants as seen
 use Rattle.judge.specs.Judge.{judged}
 use Rattle.judge.specs.Promises.{Accepted}
 use Rattle.judge.specs.declared.Order.{Order}
@@ -46,18 +47,18 @@ use Rattle.judge.specs.declared.Order.the-variants as order
 use Rattle.judge.specs.declared.Work.{Work}
 use Rattle.judge.specs.declared.Work.the-variants as work
 use Rattle.judge.proofs.Laws.{asks}
-use Rattle.acts.specs.Core.{aged, entering, opened, saved, setting, stopping, toSave, unwritten, signalled}
-use Rattle.acts.specs.Gestures.{acted, actedIn, byAction, holding, actedInFactory, actedInNormal, actedInSetup, leads, tapsInFactory, tapsInNormal, tapsInSetup, writes}
+use Rattle.acts.specs.Core.{aged, opened, saved, toSave, unwritten, signalled}
+use Rattle.acts.specs.Gestures.{acted, leads, writes}
 use Rattle.acts.specs.declared.Core.{Core}
 use Rattle.acts.specs.declared.Effect.{Effect}
 use Rattle.acts.specs.Orders.{stored}
-use Rattle.acts.proofs.Laws.{gesture-writes, work-writes}
+use Rattle.acts.proofs.Laws.{gesture-save, gesture-writes, work-writes, writes-by}
 use Rattle.acts.specs.Code.{workWrites}
-use Rattle.registers.specs.declared.Seen.the-variants as seen
 use Rattle.post.specs.declared.Reply.the-variants as reply
+use Rattle.state.specs.Paddles.{gestureAt, paddleAt}
+use Rattle.turns.specs.Turns.{Moment, after, turned, turns}
 use Rattle.switch.specs.Switch.{Deed, Event, Plain, Shown, event, press, receive, release, restart, tick}
-use Rattle.switch.specs.Paddles.{Moment, after, turned, turns}
-use Rattle.switch.specs.Events.{SwitchJob, outcomeOf, begun, jobOfDeed, finished, garbled, gestureAt, jobOfRead, job, kindOf, known, plainAfter, jobOfWork, jobOfGuess, jobOfOrder, paddleAt, paddleOf, jobOfPress, jobOfFrame, jobOfBytes, refused, jobOfRelease, jobOfRestart, signalledBy, jobOfTick, woken}
+use Rattle.switch.specs.Events.{SwitchJob, outcomeOf, begun, jobOfDeed, finished, garbled, jobOfRead, job, known, plainAfter, jobOfWork, jobOfGuess, jobOfOrder, jobOfPress, jobOfFrame, jobOfBytes, refused, jobOfRelease, jobOfRestart, signalledBy, jobOfTick, woken}
 use Rattle.switch.specs.Respond.{respond}
 use Rattle.promises.specs.Bounds.{Sane}
 use Rattle.promises.specs.Modes.{modeFor}
@@ -67,33 +68,30 @@ use Rattle.promises.proofs.Modes.{turned-mode}
 
 -- ---- writes one after the other
 
--- What they make of the registers, and of the password.
-unfoldable written : List Writing → List ℕ → List ℕ
-written [] all = all
-written (w ∷ ws) all = written ws (applied (w .write) (w .values) all)
+-- Registers and password, and what writes make of them.
+abbrev Kept : Type 0
+Kept = List ℕ × Password
 
-unfoldable rewritten : List Writing → Password → Password
-rewritten [] w = w
-rewritten (x ∷ xs) w = rewritten xs (changed (changeOf (x .write) (x .values)) w)
+abbrev wrote : Write → List ℕ → Kept → Kept
+wrote w values k = (applied w values (k .0), changed (changeOf w values) (k .1))
+
+unfoldable written : List Writing → Kept → Kept
+written [] k = k
+written (w ∷ ws) k = written ws (wrote (w .write) (w .values) k)
 
 -- Place by place.
-written-at : (ws : List Writing) (all : List ℕ) (w : Password) (place : ℕ) → length all ≡ size → place < size
-    → getD (imageOf (written ws all) (rewritten ws w)) place 0 ≡ bytesAfter ws place (getD (imageOf all w) place 0)
-unfolding written rewritten bytesAfter
-written-at [] all w place long h = refl
-written-at (x ∷ xs) all w place long h =
-    written-at xs (applied (x .write) (x .values) all) (changed (changeOf (x .write) (x .values)) w) place (write-length (x .write) (x .values) all ∙ long) h
-    ∙ ap (bytesAfter xs place) (image-after (x .write) (x .values) all w place long h)
+written-at : (ws : List Writing) (k : Kept) (place : ℕ) → length (k .0) ≡ size → place < size
+    → getD (imageOf (written ws k .0) (written ws k .1)) place 0 ≡ bytesAfter ws place (getD (imageOf (k .0) (k .1)) place 0)
+unfolding written bytesAfter
+written-at [] k place long h = refl
+written-at (x ∷ xs) k place long h =
+    written-at xs (wrote (x .write) (x .values) k) place (write-length (x .write) (x .values) (k .0) ∙ long) h
+    ∙ ap (bytesAfter xs place) (image-after (x .write) (x .values) (k .0) (k .1) place long h)
 
-written-joined : (xs ys : List Writing) (all : List ℕ) → written (xs ++ ys) all ≡ written ys (written xs all)
+written-joined : (xs ys : List Writing) (k : Kept) → written (xs ++ ys) k ≡ written ys (written xs k)
 unfolding written
-written-joined [] ys all = refl
-written-joined (x ∷ xs) ys all = written-joined xs ys (applied (x .write) (x .values) all)
-
-rewritten-joined : (xs ys : List Writing) (w : Password) → rewritten (xs ++ ys) w ≡ rewritten ys (rewritten xs w)
-unfolding rewritten
-rewritten-joined [] ys w = refl
-rewritten-joined (x ∷ xs) ys w = rewritten-joined xs ys (changed (changeOf (x .write) (x .values)) w)
+written-joined [] ys k = refl
+written-joined (x ∷ xs) ys k = written-joined xs ys (wrote (x .write) (x .values) k)
 
 -- One change of the password after another.
 over-became : (a b : Byte) (old : ℕ) → became (over a b) old ≡ became b (became a old)
@@ -107,48 +105,25 @@ followed-changed a b w i = record { 0 = over-became (a .first) (b .first) (w .0)
 
 -- ---- the paddles
 
--- A gesture leaves the count of the 480 ticks alone.
-module _ (all : List ℕ) (paddle : ℕ) (c : Core) where
-  abbrev SameSave : Effect → Type 0
-  SameSave e = e .core .save ≡ c .save
+-- What an event that began with a password keeps at a moment; and that these writes made it of what it kept before.
+abbrev keptAt : Moment → Password → Kept
+keptAt m w = (m .registers, changed (m .change) w)
 
-  holding-save : holding all paddle c .save ≡ c .save
-  unfolding holding setting
-  holding-save = both (λ (d : Core). d .save ≡ c .save) (optionsOf (dimmingIn all) .capable) refl refl
+abbrev Wrote : List Writing → Moment → Moment → Type 0
+Wrote ws before now = (w : Password) → keptAt now w ≡ written ws (keptAt before w)
 
-  save-in : (mode : Mode) (g : Gesture) → actedIn mode all paddle g c .core .save ≡ c .save
-  unfolding actedIn actedInNormal actedInSetup actedInFactory tapsInNormal tapsInSetup tapsInFactory unwritten stopping entering opened byAction setting
-  save-in Normal gestures.Nothing = refl
-  save-in Normal (gestures.Taps n) = both SameSave (eqb n 1) refl (both SameSave (eqb n 2) refl (both SameSave (eqb n 5) refl refl))
-  save-in Normal gestures.Hold = holding-save
-  save-in Normal gestures.Release = refl
-  save-in Setup gestures.Nothing = refl
-  save-in Setup (gestures.Taps n) = both SameSave (eqb n 2) refl (both SameSave (eqb n 10) refl refl)
-  save-in Setup gestures.Hold = refl
-  save-in Setup gestures.Release = refl
-  save-in Factory gestures.Nothing = refl
-  save-in Factory (gestures.Taps n) = both SameSave (eqb n 1) refl (both SameSave (eqb n 2) refl refl)
-  save-in Factory gestures.Hold = holding-save
-  save-in Factory gestures.Release = refl
-
-gesture-save : (all : List ℕ) (paddle : ℕ) (g : Gesture) (c : Core) → acted all paddle g c .core .save ≡ c .save
-unfolding acted
-gesture-save all paddle g c = save-in all paddle c (c .mode) g
-
--- A moment of an event that began with these registers and this password, after these writes.
-record Wrote (ws : List Writing) (before now : Moment) : Type 0 where
-  registers : now .registers ≡ written ws (before .registers)
-  password : (w : Password) → changed (now .change) w ≡ rewritten ws (changed (before .change) w)
+-- One act more.
+after-wrote : (ws : List Writing) (before m : Moment) (e : Effect) (w : Write) → Wrote ws before m → e .write ≡ w → Wrote (ws ++ (bare w ∷ [])) before (after e m)
+unfolding after written
+after-wrote ws before m e w k same u =
+    ap (λ (v : Password). (applied (e .write) [] (m .registers), v)) (followed-changed (m .change) (changeOf (e .write) []) u)
+    ∙ ap₂ (λ (x : Write) (k : Kept). wrote x [] k) same (k u)
+    ∙ sym (written-joined ws (bare w ∷ []) (keptAt before u))
 
 -- A gesture's turn.
 turned-wrote : (i : ℕ) (g : Gesture) (m : Moment) → Wrote (bare (writes (m .core .mode) g) ∷ []) m (turned i g m)
-unfolding turned after written rewritten
-turned-wrote i g m = record {
-  registers = ap (λ (w : Write). applied w [] (m .registers)) (gesture-writes (m .registers) i g (m .core));
-  password = λ w.
-      followed-changed (m .change) (changeOf (acted (m .registers) i g (m .core) .write) []) w
-      ∙ ap (λ (x : Write). changed (changeOf x []) (changed (m .change) w)) (gesture-writes (m .registers) i g (m .core));
-}
+unfolding turned written
+turned-wrote i g m = after-wrote [] m m (acted (m .registers) i g (m .core)) _ (λ w. refl) (gesture-writes (m .registers) i g (m .core))
 
 turned-save : (i : ℕ) (g : Gesture) (m : Moment) → turned i g m .core .save ≡ m .core .save
 unfolding turned after
@@ -156,33 +131,17 @@ turned-save i g m = gesture-save (m .registers) i g (m .core)
 
 -- All paddles' turns.
 turns-wrote : (i : ℕ) (ps : List Paddle) (m : Moment) → Wrote (byPaddles (m .core .mode) ps) m (turns i ps m)
-unfolding turns byPaddles written rewritten
-turns-wrote i [] m = record { registers = refl; password = λ w. refl }
-turns-wrote i (p ∷ ps) m =
-    let one = turned-wrote i (gesture p) m in
+unfolding turns byPaddles written
+turns-wrote i [] m w = refl
+turns-wrote i (p ∷ ps) m w =
     let rest = subst (λ (mode : Mode). Wrote (byPaddles mode ps) (turned i (gesture p) m) (turns (i + 1) ps (turned i (gesture p) m)))
     (turned-mode i (gesture p) m) (turns-wrote (i + 1) ps (turned i (gesture p) m)) in
-    let later = byPaddles (leads (m .core .mode) (gesture p)) ps in
-    record {
-      registers = rest .registers ∙ ap (written later) (one .registers);
-      password = λ w. rest .password w ∙ ap (rewritten later) (one .password w);
-    }
+    rest w ∙ ap (written (byPaddles (leads (m .core .mode) (gesture p)) ps)) (turned-wrote i (gesture p) m w)
 
 turns-save : (i : ℕ) (ps : List Paddle) (m : Moment) → turns i ps m .core .save ≡ m .core .save
 unfolding turns
 turns-save i [] m = refl
 turns-save i (p ∷ ps) m = turns-save (i + 1) ps (turned i (gesture p) m) ∙ turned-save i (gesture p) m
-
--- One act more.
-after-wrote : (ws : List Writing) (before m : Moment) (e : Effect) (w : Write) → Wrote ws before m → e .write ≡ w → Wrote (ws ++ (bare w ∷ [])) before (after e m)
-unfolding after written rewritten
-after-wrote ws before m e w k same = record {
-  registers = ap₂ (λ (x : Write) (all : List ℕ). applied x [] all) same (k .registers) ∙ sym (written-joined ws (bare w ∷ []) (before .registers));
-  password = λ u.
-      followed-changed (m .change) (changeOf (e .write) []) u
-      ∙ ap₂ (λ (x : Write) (v : Password). changed (changeOf x []) v) same (k .password u)
-      ∙ sym (rewritten-joined ws (bare w ∷ []) (changed (before .change) u));
-}
 
 -- A paddle let go completes nothing that writes.
 let-go : (mode : Mode) → (writes mode gestures.Release ≡ write.Nothing) × (writes mode gestures.Nothing ≡ write.Nothing)
@@ -201,7 +160,7 @@ up-writes mode contact p =
 
 -- An answer leaves the registers and the password that these writes make.
 abbrev Says : Switch Plain → List Writing → Answered Plain Shown → Type 0
-Says s ws a = (a .next .plain .registers ≡ written ws (s .plain .registers)) × (a .next .password ≡ rewritten ws (s .password))
+Says s ws a = (a .next .plain .registers, a .next .password) ≡ written ws (s .plain .registers, s .password)
 
 -- The lamp's signal leaves the dimmer alone.
 signalled-dimmer : (sent : List (List ℕ)) (c : Core) → signalledBy sent c .dimmer ≡ c .dimmer
@@ -216,30 +175,27 @@ module _ (s : Switch Plain) where
   -- An event of the paddles that began with nothing changed.
   finished-says : (ws : List Writing) (c : Core) (m : Moment) (paddles : List Paddle) → Wrote ws (begun p c) m → Says s ws (settled (s .password) (finished m paddles))
   unfolding finished settled changed became
-  finished-says ws c m paddles w = (w .registers, w .password (s .password))
+  finished-says ws c m paddles w = w (s .password)
 
   refused-says : (number : ℕ) → Says s [] (settled (s .password) (done (refused number p) nothing))
-  unfolding refused settled changed became written rewritten
-  refused-says number = (refl, refl)
+  unfolding refused settled changed became written
+  refused-says number = refl
 
   garbled-says : (number : ℕ) → Says s [] (settled (s .password) (done (garbled number p) nothing))
-  unfolding garbled settled changed became written rewritten
-  garbled-says number = (refl, refl)
+  unfolding garbled settled changed became written
+  garbled-says number = refl
 
   press-says : (contact : ℕ) → Says s [] (settled (s .password) (jobOfPress contact p))
-  unfolding jobOfPress written rewritten
-  press-says contact = finished-says [] (p .core) (begun p (p .core)) _ (record { registers = refl; password = λ w. refl })
+  unfolding jobOfPress written
+  press-says contact = finished-says [] (p .core) (begun p (p .core)) _ (λ w. refl)
 
   release-says : (contact : ℕ) → Says s [] (settled (s .password) (jobOfRelease contact p))
-  unfolding jobOfRelease gestureAt written rewritten applied changeOf changeAt changed became
+  unfolding jobOfRelease gestureAt written applied changeOf changeAt changed became
   release-says contact =
       let g = gestureAt contact (p .paddles) in
       let none = up-writes (p .core .mode) (kindOf contact) (paddleAt contact (p .paddles)) in
-      let one = turned-wrote (paddleOf contact) g (begun p (p .core)) in
-      finished-says [] (p .core) (turned (paddleOf contact) g (begun p (p .core))) _ (record {
-        registers = one .registers ∙ ap (λ (w : Write). applied w [] (p .registers)) none;
-        password = λ w. one .password w ∙ ap (λ (x : Write). changed (changeOf x []) (changed nothing w)) none;
-      })
+      finished-says [] (p .core) (turned (paddleOf contact) g (begun p (p .core))) _
+      (λ w. turned-wrote (paddleOf contact) g (begun p (p .core)) w ∙ ap (λ (x : Write). wrote x [] (keptAt (begun p (p .core)) w)) none)
 
   -- A tick: the paddles, and the 480th tick.
   turnsOf : Moment
@@ -262,19 +218,17 @@ module _ (s : Switch Plain) where
       (tick-saves ∙ ap (bySaving (p .core .save)) (sym tick-level)))
 
   restart-says : Says s (bare (write.Count Restarts) ∷ []) (settled (s .password) (jobOfRestart p))
-  unfolding jobOfRestart woken settled changed became written rewritten changeOf changeAt
-  restart-says = (refl, refl)
+  unfolding jobOfRestart woken settled changed became written changeOf changeAt
+  restart-says = refl
 
   -- A packet.
   obeyed-says : (w : Work) (source : ℕ) (values : List ℕ) → Says s (writing (workWrites w (p .core .dimmer .level)) values ∷ []) (settled (s .password) (jobOfWork w source values p))
-  unfolding jobOfWork outcomeOf plainAfter settled written rewritten
-  obeyed-says w source values =
-      let same = work-writes (p .registers) w (p .core) in
-      (ap (λ (w : Write). applied w values (p .registers)) same, ap (λ (w : Write). changed (changeOf w values) (s .password)) same)
+  unfolding jobOfWork outcomeOf plainAfter settled written
+  obeyed-says w source values = ap (λ (x : Write). wrote x values (p .registers, s .password)) (work-writes (p .registers) w (p .core))
 
   -- Only Set Registers brings values; a work that writes nothing leaves all as it is.
   work-says : (w : Work) (source : ℕ) (values : List ℕ) → Says s (byOrder s (order.Work w) values) (settled (s .password) (jobOfWork w source values p))
-  unfolding byOrder workWrites stored written rewritten applied changeOf changeAt changed became
+  unfolding byOrder workWrites stored written applied changeOf changeAt changed became
   work-says work.Report source values = obeyed-says work.Report source values
   work-says work.Close source values = obeyed-says work.Close source values
   work-says (work.Set first) source values = obeyed-says (work.Set first) source values
@@ -285,17 +239,17 @@ module _ (s : Switch Plain) where
   opens = outcomeOf (opened (p .core)) [] 0 reply.Silence p seen.Hidden
 
   guess-says : (right : Bool) → Says s (if right then bare (write.Count Setups) ∷ [] else []) (answered (if right then opens else refused 14 p) (s .password))
-  unfolding outcomeOf plainAfter opened refused written rewritten changeOf changeAt changed became
-  guess-says true = (refl, refl)
-  guess-says false = (refl, refl)
+  unfolding outcomeOf plainAfter opened refused written changeOf changeAt changed became
+  guess-says true = refl
+  guess-says false = refl
 
   open-says : (guess : Password) (values : List ℕ) → Says s (byOrder s (order.Guess guess) values) (settled (s .password) (jobOfGuess guess p))
   unfolding byOrder jobOfGuess settled
   open-says guess values = guess-says (matches (s .password) guess)
 
   get-says : (first count source : ℕ) → Says s [] (settled (s .password) (jobOfRead first count source p))
-  unfolding jobOfRead outcomeOf plainAfter unwritten applied written rewritten settled changed became
-  get-says first count source = both (λ (j : SwitchJob). Says s [] (settled (s .password) j)) (inSetup (p .core .mode)) (refl, refl) (refl, refl)
+  unfolding jobOfRead outcomeOf plainAfter unwritten applied written settled changed became
+  get-says first count source = both (λ (j : SwitchJob). Says s [] (settled (s .password) j)) (inSetup (p .core .mode)) refl refl
 
   order-says : (o : Order) (source : ℕ) (values : List ℕ) → Says s (byOrder s o values) (settled (s .password) (jobOfOrder o source values p))
   unfolding byOrder jobOfOrder
@@ -315,8 +269,8 @@ module _ (s : Switch Plain) where
 
   deed-says : (d : Deed) → Says s (byDeed s (settled (s .password) (jobOfDeed d p) .next .plain .core .dimmer .level) d) (settled (s .password) (jobOfDeed d p))
   unfolding byDeed jobOfDeed known jobOfBytes
-  deed-says (press contact) = both (λ (j : SwitchJob). Says s [] (settled (s .password) j)) (ltb 3 contact) (refused-says 3) (press-says contact)
-  deed-says (release contact) = both (λ (j : SwitchJob). Says s [] (settled (s .password) j)) (ltb 3 contact) (refused-says 3) (release-says contact)
+  deed-says (press contact) = both (λ (j : SwitchJob). Says s [] (settled (s .password) j)) (leb contactCount contact) (refused-says 3) (press-says contact)
+  deed-says (release contact) = both (λ (j : SwitchJob). Says s [] (settled (s .password) j)) (leb contactCount contact) (refused-says 3) (release-says contact)
   deed-says tick = tick-says
   deed-says (receive bytes) = frame-says (readOf bytes) (messageOf bytes)
   deed-says restart = restart-says
@@ -330,14 +284,12 @@ module _ (s : Switch Plain) where
 
   event-says : (e : Event) → Says s (writesOf s e) (respond s e)
   unfolding writesOf Product.responseOf job
-  event-says e = room-says (e .deed) (ltb (e .room) 48)
+  event-says e = room-says (e .deed) (ltb (e .room) room)
 
 -- All 256 registers after any event.
 equation : OneEquation
 equation s e place long h =
-    let says = event-says s e in
-    ap₂ (λ (all : List ℕ) (w : Password). getD (imageOf all w) place 0) (says .0) (says .1)
-    ∙ written-at (writesOf s e) (s .plain .registers) (s .password) place long h
+    ap (λ (k : Kept). getD (imageOf (k .0) (k .1)) place 0) (event-says s e) ∙ written-at (writesOf s e) (s .plain .registers, s .password) place long h
 
 -- What each write keeps, all of them keep.
 keeps : (P : ℕ → Type 0) (place : ℕ) (ws : List Writing) (old : ℕ) → EachWrite (λ w. (n : ℕ) → P n → P (byteAfter (w .write) (w .values) place n)) ws → P old → P (bytesAfter ws place old)
@@ -367,20 +319,6 @@ module _ (Q : Writing → Type 0) where
   each-joined [] ys a b = b
   each-joined (x ∷ xs) ys a b = (a .0, each-joined xs ys (a .1) b)
 
-  -- A gesture writes nothing, or counts a Setup entry by five taps in Normal, or sets the factory values by ten in Setup.
-  gesture-cause : (mode : Mode) (g : Gesture) → Q (bare write.Nothing) → (mode ≡ Normal → g ≡ gestures.Taps 5 → Q (bare (write.Count Setups)))
-      → (mode ≡ Setup → g ≡ gestures.Taps 10 → Q (bare write.Factory)) → Q (bare (writes mode g))
-  unfolding writes
-  gesture-cause Normal gestures.Nothing none five ten = none
-  gesture-cause Normal (gestures.Taps n) none five ten = cases (λ (w : Write). Q (bare w)) (eqb n 5) (λ e. five refl (ap gestures.Taps (eqb-true n 5 e))) (λ _. none)
-  gesture-cause Normal gestures.Hold none five ten = none
-  gesture-cause Normal gestures.Release none five ten = none
-  gesture-cause Setup gestures.Nothing none five ten = none
-  gesture-cause Setup (gestures.Taps n) none five ten = cases (λ (w : Write). Q (bare w)) (eqb n 10) (λ e. ten refl (ap gestures.Taps (eqb-true n 10 e))) (λ _. none)
-  gesture-cause Setup gestures.Hold none five ten = none
-  gesture-cause Setup gestures.Release none five ten = none
-  gesture-cause Factory g none five ten = none
-
   -- What each paddle writes in the mode it finds, all of them write.
   each-paddle : (mode : Mode) (ps : List Paddle) → ((i : ℕ) → i < length ps → Q (bare (writes (modeFor mode ps i) (gesture (getD ps i freshPaddle))))) → EachWrite Q (byPaddles mode ps)
   unfolding byPaddles modeFor
@@ -397,7 +335,7 @@ module _ (s : Switch Plain) where
       each-joined (Cause s tick) (byPaddles (plainOf .core .mode) (plainOf .paddles)) _
       (each-paddle (Cause s tick) (plainOf .core .mode) (plainOf .paddles)
       (λ i under.
-      gesture-cause (Cause s tick) (modeFor (plainOf .core .mode) (plainOf .paddles) i) (gesture (getD (plainOf .paddles) i freshPaddle)) no-write
+      writes-by (λ (w : Write). Cause s tick (bare w)) (modeFor (plainOf .core .mode) (plainOf .paddles) i) (gesture (getD (plainOf .paddles) i freshPaddle)) no-write
       (λ finds taps. five-taps tick (record { ticked = refl; paddle = i; closes = record { there = under; taps = taps; finds = finds } }))
       (λ finds taps. ten-taps i (record { there = under; taps = taps; finds = finds }))))
       (cases (λ (w : Write). Cause s tick (bare w)) (eqb (plainOf .core .save) 0) (λ e. saved-480th (percentOf level) (eqb-true _ 0 e)) (λ _. no-write), tt)
@@ -444,7 +382,7 @@ module _ (s : Switch Plain) where
 
 causes : OnlyCauses
 unfolding writesOf
-causes s e = both (EachWrite (Cause s (e .deed))) (ltb (e .room) 48) tt (deed-causes s _ (e .deed))
+causes s e = both (EachWrite (Cause s (e .deed))) (ltb (e .room) room) tt (deed-causes s _ (e .deed))
 
 -- ---- the places that few can alter
 

@@ -4,25 +4,26 @@ use mathlib.Core.List.{List, [], _∷_, _++_, map}
 use mathlib.Core.Path.{_≡_, refl, sym, _∙_, subst}
 use Prim.Native.Nat.{ℕ, suc, _+_, _≤_}
 use native.Mathlib.Omega.{arith}
-use lib.Dec.{ltb}
+use lib.Dec.{leb, ltb}
 use lib.ListN.{length, drop, length-append, length-map, length-set}
 use Rattle.words.proofs.Laws.{both}
 use Rattle.units.specs.Units.{percentOf}
 use Rattle.units.specs.declared.Step.{Step}
 use Rattle.units.proofs.Laws.{percent-within}
+use Rattle.packet.specs.Reading.{messageOf, readOf}
+use Rattle.packet.specs.declared.Frame.{Frame}
+use Rattle.packet.specs.declared.Frame.the-variants as frame
 use Rattle.vault.specs.Job.{Switch}
 use Rattle.vault.specs.Machine.{Throughout, run}
 use Rattle.vault.specs.Product.{machine}
 use Rattle.vault.specs.Vault.{inSetup}
 use Rattle.vault.specs.declared.Password.{Password}
 use Rattle.dimmer.specs.Dimmer.{Within}
-use Rattle.lamp.proofs.Laws.{output-within}
-use Rattle.packet.specs.Reading.{messageOf, readOf}
-use Rattle.packet.specs.declared.Frame.{Frame}
-use Rattle.packet.specs.declared.Frame.the-variants as frame
 use Rattle.paddle.specs.Paddle.{gesture, nextPaddle}
 use Rattle.paddle.specs.declared.Gesture.{Gesture}
 use Rattle.paddle.specs.declared.Paddle.{Paddle}
+use Rattle.lamp.proofs.Laws.{output-within}
+use Rattle.model.specs.Model.{paddleOf, room, paddleCount, contactCount}
 use Rattle.registers.specs.Places.{size}
 use Rattle.registers.specs.Registers.{Dead, apart}
 use Rattle.registers.specs.declared.Seen.{Seen}
@@ -39,14 +40,17 @@ use Rattle.acts.specs.Orders.{performed}
 use Rattle.acts.specs.declared.Core.{Core}
 use Rattle.acts.specs.declared.Effect.{Effect}
 use Rattle.acts.proofs.Laws.{Ranged, age-ranged, gesture-ranged, work-ranged, start-ranged}
-use Rattle.post.specs.Post.{announced, headed, replied, replyMessage}
+use Rattle.post.specs.Post.{announced, headed, replied, replyMessage, tally}
 use Rattle.post.specs.Promises.{Each}
 use Rattle.post.specs.declared.Reply.{Reply}
 use Rattle.post.specs.declared.Reply.the-variants as reply
 use Rattle.post.proofs.Sending.{announced-one, announced-reads, each-so, enveloped-one, replied-reads}
-use Rattle.switch.specs.Switch.{Deed, Event, Plain, Shown, answerOf, answerWith, press, receive, release, restart, shown, tally, tick}
-use Rattle.switch.specs.Paddles.{Moment, after, turned, turns}
-use Rattle.switch.specs.Events.{SwitchJob, outcomeOf, begun, jobOfDeed, finished, garbled, gestureAt, jobOfRead, hueOf, job, known, plainAfter, jobOfWork, jobOfGuess, jobOfOrder, paddleOf, pressedAt, jobOfPress, jobOfFrame, jobOfBytes, refused, releasedAt, jobOfRelease, replyTo, jobOfRestart, signalledBy, jobOfTick, woken}
+use Rattle.state.specs.Paddles.{gestureAt, pressedAt, releasedAt}
+use Rattle.state.proofs.Laws.{fresh-count}
+use Rattle.turns.specs.Turns.{Moment, after, turned, turns}
+use Rattle.obey.specs.Obey.{hueOf, replyTo}
+use Rattle.switch.specs.Switch.{Deed, Event, Plain, Shown, answerOf, answerWith, press, receive, release, restart, shown, tick}
+use Rattle.switch.specs.Events.{SwitchJob, outcomeOf, begun, jobOfDeed, finished, garbled, jobOfRead, job, known, plainAfter, jobOfWork, jobOfGuess, jobOfOrder, jobOfPress, jobOfFrame, jobOfBytes, refused, jobOfRelease, jobOfRestart, signalledBy, jobOfTick, woken}
 use Rattle.switch.specs.Respond.{respond, startedFrom, wallSwitch}
 use Rattle.promises.specs.Bounds.{Bounded, OfSize, Sane, WithinBounds}
 use Rattle.promises.proofs.Outcomes.{Every, every-answer}
@@ -62,13 +66,13 @@ record Midway (n : ℕ) (m : Moment) : Type 0 where
 -- What is shown of a switch, with few packets of the right size.
 record Good (x : Shown) (p : Plain) : Type 0 where
   kept : Sane p
-  packets : length (x .sent) ≤ 2
+  packets : length (x .sent) ≤ paddleCount
   sizes : Each OfSize (x .sent)
   level : x .answer .level ≡ p .core .dimmer .level
   output : x .answer .output .0 ≤ 200
   tallied : x .answer .sent ≡ tally (x .sent)
 
-good : (number : ℕ) (sent : List (List ℕ)) (p : Plain) → Sane p → length sent ≤ 2 → Each OfSize sent → Good (shown number sent p) p
+good : (number : ℕ) (sent : List (List ℕ)) (p : Plain) → Sane p → length sent ≤ paddleCount → Each OfSize sent → Good (shown number sent p) p
 unfolding answerOf answerWith
 good number sent p k few sizes = record {
   kept = k;
@@ -129,11 +133,11 @@ signalled-within (p ∷ sent) c w = w
 abbrev Fine : SwitchJob → Type 0
 Fine j = Every Good j
 
-finished-fine : (n : ℕ) (m : Moment) (paddles : List Paddle) → Midway n m → n ≤ 2 → length paddles ≡ 2 → Fine (finished m paddles)
+finished-fine : (n : ℕ) (m : Moment) (paddles : List Paddle) → Midway n m → n ≤ paddleCount → length paddles ≡ paddleCount → Fine (finished m paddles)
 unfolding finished
-finished-fine n m paddles k few two =
+finished-fine n m paddles k few all =
     good 0 (m .sent) _
-    (record { registers = k .registers; dead = k .dead; dimmer = signalled-within (m .sent) (m .core) (k .dimmer); paddles = two })
+    (record { registers = k .registers; dead = k .dead; dimmer = signalled-within (m .sent) (m .core) (k .dimmer); paddles = all })
     (omega (arith, k .packets)) (k .sizes)
 
 refused-fine : (number : ℕ) (p : Plain) → Sane p → Good (refused number p .shown) (refused number p .next)
@@ -151,14 +155,14 @@ begun-midway p c k r = record { registers = k .registers; dead = k .dead; dimmer
 pressing-fine : (contact : ℕ) (p : Plain) → Sane p → Fine (jobOfPress contact p)
 unfolding jobOfPress pressedAt
 pressing-fine contact p k =
-    finished-fine 0 (begun p (p .core)) (pressedAt contact (p .paddles)) (begun-midway p (p .core) k (k .dimmer)) (omega arith) (simp length-set (k .paddles))
+    finished-fine 0 (begun p (p .core)) (pressedAt contact (p .paddles)) (begun-midway p (p .core) k (k .dimmer)) (omega arith) (length-set (p .paddles) _ _ ∙ k .paddles)
 
 releasing-fine : (contact : ℕ) (p : Plain) → Sane p → Fine (jobOfRelease contact p)
 unfolding jobOfRelease releasedAt
 releasing-fine contact p k =
     finished-fine 1 (turned (paddleOf contact) (gestureAt contact (p .paddles)) (begun p (p .core))) (releasedAt contact (p .paddles))
     (turned-midway 0 (paddleOf contact) (gestureAt contact (p .paddles)) (begun p (p .core)) (begun-midway p (p .core) k (k .dimmer)))
-    (omega arith) (simp length-set (k .paddles))
+    (omega arith) (length-set (p .paddles) _ _ ∙ k .paddles)
 
 ticking-fine : (p : Plain) → Sane p → Fine (jobOfTick p)
 unfolding jobOfTick saved
@@ -174,7 +178,7 @@ woken-sane all long dead = record {
   registers = write-length _ [] all ∙ long;
   dead = write-dead _ [] all dead;
   dimmer = start-ranged _;
-  paddles = refl;
+  paddles = fresh-count;
 }
 
 restarting-fine : (p : Plain) → Sane p → Fine (jobOfRestart p)
@@ -233,7 +237,7 @@ reading-fine frame.Reserved m p k = garbled-fine 8 p k
 
 known-fine : (contact : ℕ) (asked : Plain → SwitchJob) (p : Plain) → Sane p → Fine (asked p) → Fine (known contact asked p)
 unfolding known
-known-fine contact asked p k fine = both Fine (ltb 3 contact) (refused-fine 3 p k) fine
+known-fine contact asked p k fine = both Fine (leb contactCount contact) (refused-fine 3 p k) fine
 
 doing-fine : (d : Deed) (p : Plain) → Sane p → Fine (jobOfDeed d p)
 unfolding jobOfDeed jobOfBytes
@@ -245,7 +249,7 @@ doing-fine restart p k = restarting-fine p k
 
 job-fine : (p : Plain) (e : Event) → Sane p → Fine (job p e)
 unfolding job
-job-fine p e k = both Fine (ltb (e .room) 48) (refused-fine 2 p k) (doing-fine (e .deed) p k)
+job-fine p e k = both Fine (ltb (e .room) room) (refused-fine 2 p k) (doing-fine (e .deed) p k)
 
 -- Every answer is good.
 answer-good : (s : Switch Plain) (e : Event) → Sane (s .plain) → Good (respond s e .shown) (respond s e .next .plain)

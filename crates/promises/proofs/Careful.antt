@@ -5,22 +5,21 @@ use mathlib.Core.Logic.{_≢_}
 use mathlib.Core.Path.{_≡_, refl, sym, ap, _∙_, subst}
 use Prim.Native.Nat.{ℕ, _+_}
 use native.Mathlib.Omega.{arith}
-use lib.Dec.{eqb, ltb}
+use lib.Dec.{eqb, leb, ltb}
 use Rattle.words.proofs.Laws.{both, cases}
-use Rattle.vault.specs.Job.{Byte, Change, kept, put, over, followed}
-use Rattle.vault.specs.Vault.{inSetup}
-use Rattle.vault.specs.declared.Mode.{Mode}
-use Rattle.vault.specs.declared.Mode.the-variants.{Normal, Setup, Factory}
-use Rattle.vault.specs.declared.Password.{Password}
-use Rattle.vault.specs.Code.{Whole, Proper, Careful}
 use Rattle.packet.specs.Reading.{messageOf, readOf}
 use Rattle.packet.specs.declared.Frame.{Frame}
 use Rattle.packet.specs.declared.Frame.the-variants as frame
 use Rattle.packet.specs.declared.Header.{Header}
+use Rattle.vault.specs.Job.{Byte, Change, kept, put, over, followed}
+use Rattle.vault.specs.Vault.{inSetup}
+use Rattle.vault.specs.declared.Mode.{Mode}
+use Rattle.vault.specs.declared.Password.{Password}
+use Rattle.vault.specs.Code.{Whole, Proper, Careful}
 use Rattle.paddle.specs.Paddle.{gesture, nextPaddle}
 use Rattle.paddle.specs.declared.Gesture.{Gesture}
-use Rattle.paddle.specs.declared.Gesture.the-variants.{Nothing, Taps, Hold, Release}
 use Rattle.paddle.specs.declared.Paddle.{Paddle}
+use Rattle.model.specs.Model.{room, contactCount}
 use Rattle.registers.specs.Write.{changeOf}
 use Rattle.registers.specs.declared.write.Write.{Write}
 use Rattle.registers.specs.declared.write.Write.the-variants as write
@@ -36,10 +35,10 @@ use Rattle.acts.specs.Gestures.{acted, writes}
 use Rattle.acts.specs.Orders.{stored}
 use Rattle.acts.specs.declared.Core.{Core}
 use Rattle.acts.specs.declared.Effect.{Effect}
-use Rattle.acts.proofs.Laws.{gesture-writes, work-writes}
+use Rattle.acts.proofs.Laws.{gesture-writes, work-writes, writes-by}
 use Rattle.acts.specs.Code.{workWrites}
+use Rattle.turns.specs.Turns.{Moment, after, turned, turns}
 use Rattle.switch.specs.Switch.{Plain, Deed, press, release, tick, receive, restart}
-use Rattle.switch.specs.Paddles.{Moment, after, turned, turns}
 use Rattle.switch.specs.Events.{SwitchJob, outcomeOf, begun, jobOfDeed, finished, jobOfRead, job, known, plainAfter, jobOfWork, jobOfGuess, jobOfOrder, jobOfPress, jobOfBytes, jobOfFrame, jobOfRelease, jobOfRestart, jobOfTick}
 use Rattle.switch.specs.Respond.{wallSwitch}
 
@@ -69,16 +68,8 @@ unset-nothing first e = let z : _≡_ {A = ℕ} 0 1 = cc in omega arith
 
 -- A gesture writes nothing byte by byte.
 unset-gesture : (mode : Mode) (g : Gesture) → Unset (writes mode g)
-unfolding writes
-unset-gesture Normal Nothing = unset-nothing
-unset-gesture Normal (Taps n) = both Unset (eqb n 5) (λ first e. let z : _≡_ {A = ℕ} 0 1 = cc in omega arith) unset-nothing
-unset-gesture Normal Hold = unset-nothing
-unset-gesture Normal Release = unset-nothing
-unset-gesture Setup Nothing = unset-nothing
-unset-gesture Setup (Taps n) = both Unset (eqb n 10) (λ first e. let z : _≡_ {A = ℕ} 0 1 = cc in omega arith) unset-nothing
-unset-gesture Setup Hold = unset-nothing
-unset-gesture Setup Release = unset-nothing
-unset-gesture Factory g = unset-nothing
+unset-gesture mode g =
+    writes-by Unset mode g unset-nothing (λ _ _ first e. let z : _≡_ {A = ℕ} 0 1 = cc in omega arith) (λ _ _ first e. let z : _≡_ {A = ℕ} 0 1 = cc in omega arith)
 
 -- Nor does the 480th tick.
 unset-save : (c : Core) → Unset (toSave c)
@@ -112,7 +103,7 @@ finished-fine p m paddles w = λ _. w
 
 known-fine : (p : Plain) (contact : ℕ) (asked : Plain → SwitchJob) → Fine p (asked p) → Fine p (known contact asked p)
 unfolding known
-known-fine p contact asked fine = both (Fine p) (ltb 3 contact) (λ _. tt) fine
+known-fine p contact asked fine = both (Fine p) (leb contactCount contact) (λ _. tt) fine
 
 -- Set Registers is only accepted in Setup.
 set-in-setup : (p : Plain) (h : Header) (m : List ℕ) (first : ℕ) → judged (p .registers) (p .core .mode) h m ≡ order.Work (work.Set first) → inSetup (p .core .mode) ≡ false → ⊥
@@ -180,4 +171,4 @@ doing-fine restart p = λ _. tt
 -- So the whole switch is careful, in every state and at every event.
 pub careful : Careful wallSwitch
 unfolding job
-careful p e = both (Fine p) (ltb (e .room) 48) (λ _. tt) (doing-fine (e .deed) p)
+careful p e = both (Fine p) (ltb (e .room) room) (λ _. tt) (doing-fine (e .deed) p)

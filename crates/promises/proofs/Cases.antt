@@ -11,6 +11,10 @@ use lib.Seq.{getD-set-other, getD-set-same}
 use Rattle.words.proofs.Laws.{three-ways}
 use Rattle.units.specs.Units.{off, percent, percentOf, step, stepOf}
 use Rattle.units.specs.declared.Step.{Step}
+use Rattle.packet.specs.Layout.{header, firstByte, headerIn, reservedIn, secondByte, total, wholeIn}
+use Rattle.packet.specs.Reading.{messageOf, numberOfFrame, readOf}
+use Rattle.packet.specs.declared.Frame.the-variants as frame
+use Rattle.packet.proofs.Laws as packet
 use Rattle.vault.specs.Job.{Switch, answered, settled}
 use Rattle.vault.specs.Product
 use Rattle.vault.specs.Vault.{password}
@@ -20,17 +24,14 @@ use Rattle.dimmer.specs.Dimmer.{allowed, distance, freshDimmer, headingTo, opti
 use Rattle.dimmer.specs.declared.Dimmer.{Dimmer}
 use Rattle.dimmer.specs.declared.Motion.the-variants.{Idle}
 use Rattle.dimmer.proofs.Laws.{fade-ends, fade-runs}
+use Rattle.paddle.specs.Paddle.{down, freshPaddle, pressed}
+use Rattle.paddle.specs.declared.Gesture.the-variants.{Taps}
+use Rattle.paddle.specs.declared.Paddle.{Paddle}
 use Rattle.lamp.specs.Lamp.{bitOf, bitColour, signalSet, colour, freshLamp}
 use Rattle.lamp.specs.declared.Lamp.{Lamp}
 use Rattle.lamp.proofs.Laws.{output-plain, skip-none, version-shows}
 use Rattle.lamp.specs.Code.{blinkAfter, versionAfter}
-use Rattle.packet.specs.Layout.{firstByte, headerIn, reservedIn, secondByte, total, wholeIn}
-use Rattle.packet.specs.Reading.{messageOf, numberOfFrame, readOf}
-use Rattle.packet.specs.declared.Frame.the-variants as frame
-use Rattle.packet.proofs.Laws as packet
-use Rattle.paddle.specs.Paddle.{down, freshPaddle, pressed}
-use Rattle.paddle.specs.declared.Gesture.the-variants.{Taps}
-use Rattle.paddle.specs.declared.Paddle.{Paddle}
+use Rattle.model.specs.Model.{drives, kindOf, paddleOf, room, paddleCount, contactCount}
 use Rattle.registers.specs.Places.{counterPlace, digitIn, dimmingIn, lightIn, networkIn, singleIn, size}
 use Rattle.registers.specs.Registers.{apart, found, seek, valid}
 use Rattle.registers.specs.Write.{applied, oneMore, stored}
@@ -41,18 +42,21 @@ use Rattle.judge.specs.declared.Order.the-variants as order
 use Rattle.judge.specs.declared.Work.the-variants as work
 use Rattle.judge.specs.declared.Drive.the-variants as drive
 use Rattle.judge.proofs.Laws as judge
-use Rattle.acts.specs.Core.{entering, opened, setBy, setting, startLevel, started, unwritten, signalled}
+use Rattle.acts.specs.Core.{entering, loaded, opened, setBy, setting, startLevel, started, unwritten, signalled}
 use Rattle.acts.specs.Gestures.{acted, actedIn, byAction, actedInNormal, tapsInNormal}
 use Rattle.acts.specs.Orders.{driven, performed}
-use Rattle.post.specs.Post.{enveloped, header, replied, replyMessage}
+use Rattle.post.specs.Post.{enveloped, replied, replyMessage}
 use Rattle.post.specs.declared.Reply.the-variants as reply
 use Rattle.post.proofs.Sending.{case-a, case-j}
-use Rattle.switch.specs.Switch.{Event, Plain, Shown, answerOf, answerWith, event, freshPaddles, press, receive}
-use Rattle.switch.specs.Events.{SwitchJob, outcomeOf, finished, job, kindOf, plainAfter, jobOfWork, jobOfGuess, jobOfOrder, paddleAt, paddleOf, pressedAt, jobOfPress, refused, replyTo, woken}
+use Rattle.state.specs.Paddles.{paddleAt, pressedAt, freshFrom}
+use Rattle.state.proofs.Laws.{fresh-count, paddle-low}
+use Rattle.obey.specs.Obey.{replyTo}
+use Rattle.switch.specs.Switch.{Event, Plain, Shown, answerOf, answerWith, event, press, receive}
+use Rattle.switch.specs.Events.{SwitchJob, outcomeOf, finished, job, plainAfter, jobOfWork, jobOfGuess, jobOfOrder, jobOfPress, refused, woken}
 use Rattle.switch.specs.Respond.{respond, startAnswer, startedFrom, wallSwitch}
 use Rattle.promises.specs.Cases.{Bench, Cases, Dark, benchImage, darkImage, packetA, packetB, packetC, packetE, packetFull, packetHalf, replyA, zeros}
 use Rattle.promises.specs.Numbers.{Asks, not-read, numberAt, refused as row-refused, wrong-password}
-use Rattle.promises.specs.Ticking.{AtRest, Fades, Shows, blinks, coloursOf, dimmerBy, dimmerIn, modeIn, nextTick, nthTick, repeated, runOf, ticksOf, with48}
+use Rattle.promises.specs.Ticking.{AtRest, Fades, Shows, blinks, coloursOf, dimmerBy, dimmerIn, modeIn, nextTick, nthTick, repeated, runOf, ticksOf, withRoom}
 use Rattle.promises.proofs.Jobs.{press-job, receive-job}
 use Rattle.promises.proofs.Numbers.{numbers}
 use Rattle.promises.proofs.Presses.{is-double, is-hold, is-nothing, is-tap}
@@ -73,14 +77,14 @@ reads : Reads
 unfolding readOf messageOf headerIn firstByte secondByte wholeIn reservedIn total
 reads = record { a = refl; a-message = refl; b = refl; b-message = refl; c = refl; c-message = refl; e = refl }
 
-module _ (s : Switch Plain) (room : ℕ) (enough : 48 ≤ room) (bench : Bench s) where
+module _ (s : Switch Plain) (lent : ℕ) (enough : room ≤ lent) (bench : Bench s) where
   -- How they are judged.
   judged-a : judged (s .plain .registers) (s .plain .core .mode) (header false 1 5 9) (messageOf packetA) ≡ (order.Work work.Report)
   judged-a =
       judge.only _ _ (header false 1 5 9) (order.Work work.Report) (messageOf packetA)
       (record {
         reached = (λ u. u .1 (sym (bench .network)), λ u. u .1 (sym (bench .unit)));
-        asked = judge.row ((refl, (sym (bench .unit), λ z. omega arith)), λ z. omega arith) tt (reads .a-message);
+        asked = judge.terms ((refl, (sym (bench .unit), λ z. omega arith)), λ z. omega arith) tt (reads .a-message);
       })
 
   judged-b : (i : ℕ) → found (s .plain .registers) 3 ≡ At i
@@ -89,7 +93,7 @@ module _ (s : Switch Plain) (room : ℕ) (enough : 48 ≤ room) (bench : Bench s
       judge.only _ _ (header true 1 3 9) (driving (drive.Goto 50 0)) (messageOf packetB)
       (record {
         reached = (λ u. u .1 (sym (bench .network)), λ u. let z : _≡_ {A = ℕ} 0 1 = cc in omega arith);
-        asked = judge.row tt tt (inl (inl (reads .b-message)));
+        asked = judge.terms tt tt (inl (inl (reads .b-message)));
       })
 
   judged-c : judged (s .plain .registers) (s .plain .core .mode) (header false 1 5 9) (messageOf packetC) ≡ order.Guess (password 0x12 0x34)
@@ -97,27 +101,27 @@ module _ (s : Switch Plain) (room : ℕ) (enough : 48 ≤ room) (bench : Bench s
       judge.only _ _ (header false 1 5 9) (order.Guess (password 0x12 0x34)) (messageOf packetC)
       (record {
         reached = (λ u. u .1 (sym (bench .network)), λ u. u .1 (sym (bench .unit)));
-        asked = judge.row (refl, (sym (bench .unit), λ z. omega arith)) (bench .mode) (reads .c-message);
+        asked = judge.terms (refl, (sym (bench .unit), λ z. omega arith)) (bench .mode) (reads .c-message);
       })
 
-  job-a : job (s .plain) (event room (receive packetA)) ≡ jobOfWork work.Report 9 (drop 2 (messageOf packetA)) (s .plain)
+  job-a : job (s .plain) (event lent (receive packetA)) ≡ jobOfWork work.Report 9 (drop 2 (messageOf packetA)) (s .plain)
   unfolding jobOfOrder
-  job-a = receive-job (s .plain) room packetA (header false 1 5 9) (order.Work work.Report) enough (reads .a) judged-a
+  job-a = receive-job (s .plain) lent packetA (header false 1 5 9) (order.Work work.Report) enough (reads .a) judged-a
 
-  a-number : numberAt s (event room (receive packetA)) ≡ 0
+  a-number : numberAt s (event lent (receive packetA)) ≡ 0
   unfolding Product.responseOf jobOfWork outcomeOf answerOf answerWith settled
   a-number = ap (λ (j : SwitchJob). settled (s .password) j .shown .answer .number) job-a
 
-  a-sent : respond s (event room (receive packetA)) .shown .sent ≡ replyA ∷ []
+  a-sent : respond s (event lent (receive packetA)) .shown .sent ≡ replyA ∷ []
   unfolding Product.responseOf jobOfWork outcomeOf plainAfter signalled performed replyTo unwritten applied settled percentOf
   a-sent = ap (λ (j : SwitchJob). settled (s .password) j .shown .sent) job-a ∙ rw (bench .level) (case-a (s .plain .registers) seen.Hidden (bench .network) (bench .unit))
 
   job-b : (i : ℕ) → found (s .plain .registers) 3 ≡ At i
-      → job (s .plain) (event room (receive packetB)) ≡ jobOfWork (work.Drive (drive.Goto 50 0)) 9 (drop 2 (messageOf packetB)) (s .plain)
+      → job (s .plain) (event lent (receive packetB)) ≡ jobOfWork (work.Drive (drive.Goto 50 0)) 9 (drop 2 (messageOf packetB)) (s .plain)
   unfolding jobOfOrder
-  job-b i there = receive-job (s .plain) room packetB (header true 1 3 9) (driving (drive.Goto 50 0)) enough (reads .b) (judged-b i there)
+  job-b i there = receive-job (s .plain) lent packetB (header true 1 3 9) (driving (drive.Goto 50 0)) enough (reads .b) (judged-b i there)
 
-  b-number : (i : ℕ) → found (s .plain .registers) 3 ≡ At i → numberAt s (event room (receive packetB)) ≡ 0
+  b-number : (i : ℕ) → found (s .plain .registers) 3 ≡ At i → numberAt s (event lent (receive packetB)) ≡ 0
   unfolding Product.responseOf jobOfWork outcomeOf answerOf answerWith settled
   b-number i there = ap (λ (j : SwitchJob). settled (s .password) j .shown .answer .number) (job-b i there)
 
@@ -129,36 +133,36 @@ module _ (s : Switch Plain) (room : ℕ) (enough : 48 ≤ room) (bench : Bench s
   unfolding setTo allowed wanted rateOf headingTo stepOf ticksPerStep
   b-rest = rw (bench .capable)
 
-  b-level : (i : ℕ) → found (s .plain .registers) 3 ≡ At i → respond s (event room (receive packetB)) .shown .answer .level ≡ step 100
+  b-level : (i : ℕ) → found (s .plain .registers) 3 ≡ At i → respond s (event lent (receive packetB)) .shown .answer .level ≡ step 100
   unfolding Product.responseOf jobOfWork outcomeOf plainAfter signalled performed driven setBy unwritten answerOf answerWith settled
   b-level i there = ap (λ (j : SwitchJob). settled (s .password) j .shown .answer .level) (job-b i there) ∙ b-set
 
-  b-motion : (i : ℕ) → found (s .plain .registers) 3 ≡ At i → respond s (event room (receive packetB)) .next .plain .core .dimmer .motion ≡ Idle
+  b-motion : (i : ℕ) → found (s .plain .registers) 3 ≡ At i → respond s (event lent (receive packetB)) .next .plain .core .dimmer .motion ≡ Idle
   unfolding Product.responseOf jobOfWork outcomeOf plainAfter signalled performed driven setBy unwritten settled
   b-motion i there = ap (λ (j : SwitchJob). settled (s .password) j .next .plain .core .dimmer .motion) (job-b i there) ∙ b-rest
 
-  job-c : job (s .plain) (event room (receive packetC)) ≡ jobOfGuess (password 0x12 0x34) (s .plain)
+  job-c : job (s .plain) (event lent (receive packetC)) ≡ jobOfGuess (password 0x12 0x34) (s .plain)
   unfolding jobOfOrder
-  job-c = receive-job (s .plain) room packetC (header false 1 5 9) (order.Guess (password 0x12 0x34)) enough (reads .c) judged-c
+  job-c = receive-job (s .plain) lent packetC (header false 1 5 9) (order.Guess (password 0x12 0x34)) enough (reads .c) judged-c
 
   c-answer : s .password ≡ password 0x12 0x34
-      → respond s (event room (receive packetC)) ≡ answered (outcomeOf (opened (s .plain .core)) [] 0 reply.Silence (s .plain) seen.Hidden) (s .password)
+      → respond s (event lent (receive packetC)) ≡ answered (outcomeOf (opened (s .plain .core)) [] 0 reply.Silence (s .plain) seen.Hidden) (s .password)
   unfolding jobOfGuess
   c-answer same =
-      respond-right wallSwitch s (event room (receive packetC)) (password 0x12 0x34) (outcomeOf (opened (s .plain .core)) [] 0 reply.Silence (s .plain) seen.Hidden) (refused 14 (s .plain))
+      respond-right wallSwitch s (event lent (receive packetC)) (password 0x12 0x34) (outcomeOf (opened (s .plain .core)) [] 0 reply.Silence (s .plain) seen.Hidden) (refused 14 (s .plain))
       job-c (equal-matches (s .password) (password 0x12 0x34) same)
 
-  c-number : s .password ≡ password 0x12 0x34 → numberAt s (event room (receive packetC)) ≡ 0
+  c-number : s .password ≡ password 0x12 0x34 → numberAt s (event lent (receive packetC)) ≡ 0
   unfolding outcomeOf answerOf answerWith
   c-number same = ap (λ a. a .shown .answer .number) (c-answer same)
 
-  c-mode : s .password ≡ password 0x12 0x34 → respond s (event room (receive packetC)) .shown .answer .mode ≡ Setup
+  c-mode : s .password ≡ password 0x12 0x34 → respond s (event lent (receive packetC)) .shown .answer .mode ≡ Setup
   unfolding outcomeOf plainAfter signalled opened entering answerOf answerWith
   c-mode same = ap (λ a. a .shown .answer .mode) (c-answer same)
 
-  d-number : (s .password ≡ password 0x12 0x34 → ⊥) → numberAt s (event room (receive packetC)) ≡ 14
+  d-number : (s .password ≡ password 0x12 0x34 → ⊥) → numberAt s (event lent (receive packetC)) ≡ 14
   d-number other =
-      numbers .exactly s (event room (receive packetC)) 14 .1
+      numbers .exactly s (event lent (receive packetC)) 14 .1
       (row-refused 14 enough
       (wrong-password (password 0x12 0x34) (record {
         header = header false 1 5 9;
@@ -166,20 +170,20 @@ module _ (s : Switch Plain) (room : ℕ) (enough : 48 ≤ room) (bench : Bench s
         accepted = judge.asks (order.Guess (password 0x12 0x34)) _ _ (header false 1 5 9) (messageOf packetC) judged-c;
       }) other))
 
-e-number : (s : Switch Plain) (room : ℕ) → 48 ≤ room → numberAt s (event room (receive packetE)) ≡ 7
-e-number s room enough =
-    numbers .exactly s (event room (receive packetE)) 7 .1 (row-refused 7 enough (not-read 7 (λ z. omega arith) (packet.exactly .number packetE 7 .0 (ap numberOfFrame (reads .e)))))
+e-number : (s : Switch Plain) (lent : ℕ) → room ≤ lent → numberAt s (event lent (receive packetE)) ≡ 7
+e-number s lent enough =
+    numbers .exactly s (event lent (receive packetE)) 7 .1 (row-refused 7 enough (not-read 7 (λ z. omega arith) (packet.exactly .number packetE 7 .0 (ap numberOfFrame (reads .e)))))
 
--- A press moves its paddle as the recogniser says, of a switch of two paddles.
+-- A press moves its paddle as the recogniser says, of a switch with all its paddles.
 abbrev Has : Switch Plain → ℕ → Paddle → Type 0
-Has s contact q = (length (s .plain .paddles) ≡ 2) × (paddleAt contact (s .plain .paddles) ≡ q)
+Has s contact q = (length (s .plain .paddles) ≡ paddleCount) × (paddleAt contact (s .plain .paddles) ≡ q)
 
-pub has-pressed : (contact : ℕ) → contact ≤ 3 → (s : Switch Plain) (q : Paddle) → Has s contact q
-    → Has (respond s (with48 (press contact)) .next) contact (pressed (kindOf contact) q)
-unfolding Product.responseOf settled jobOfPress finished pressedAt paddleOf
+pub has-pressed : (contact : ℕ) → contact < contactCount → (s : Switch Plain) (q : Paddle) → Has s contact q
+    → Has (respond s (withRoom (press contact)) .next) contact (pressed (kindOf contact) q)
+unfolding Product.responseOf settled jobOfPress finished pressedAt
 has-pressed contact known s q h =
-    let same = ap (λ (j : SwitchJob). settled (s .password) j .next .plain .paddles) (press-job (s .plain) 48 contact (omega arith) known) in
-    rw same (length-set (s .plain .paddles) _ _ ∙ h .0, getD-set-same (s .plain .paddles) (contact % 2) _ freshPaddle (omega (arith, h .0)) ∙ ap (pressed (kindOf contact)) (h .1))
+    let same = ap (λ (j : SwitchJob). settled (s .password) j .next .plain .paddles) (press-job (s .plain) room contact (omega arith) known) in
+    rw same (length-set (s .plain .paddles) _ _ ∙ h .0, getD-set-same (s .plain .paddles) (paddleOf contact) _ freshPaddle (omega (arith, paddle-low contact, h .0)) ∙ ap (pressed (kindOf contact)) (h .1))
 
 -- ---- (h): the fade that a Goto begins
 
@@ -195,9 +199,9 @@ begins-dark : (last target : Step) (each : ℕ) → 0 < each → 0 < target .0 �
 unfolding headingTo
 begins-dark last target each some lit = rw (ne-eqb each 0 (omega arith), ne-eqb 0 (target .0) (omega arith))
 
-module _ (s : Switch Plain) (room : ℕ) (bytes : List ℕ) (enough : 48 ≤ room) (dark : Dark s) (level rate : ℕ) (accepts : Asks s bytes (driving (drive.Goto level rate))) where
+module _ (s : Switch Plain) (lent : ℕ) (bytes : List ℕ) (enough : room ≤ lent) (dark : Dark s) (level rate : ℕ) (accepts : Asks s bytes (driving (drive.Goto level rate))) where
   abbrev goto : Event
-  goto = event room (receive bytes)
+  goto = event lent (receive bytes)
 
   abbrev set-dimmer : Dimmer
   set-dimmer = setTo (dimmerIn s) level rate (optionsOf (dimmingIn (s .plain .registers)))
@@ -205,7 +209,7 @@ module _ (s : Switch Plain) (room : ℕ) (bytes : List ℕ) (enough : 48 ≤ roo
   goto-job : job (s .plain) goto ≡ jobOfWork (work.Drive (drive.Goto level rate)) (accepts .header .source) (drop 2 (messageOf bytes)) (s .plain)
   unfolding jobOfOrder
   goto-job =
-      receive-job (s .plain) room bytes (accepts .header) (driving (drive.Goto level rate)) enough (packet.only (frame.Read (accepts .header)) bytes (accepts .sound))
+      receive-job (s .plain) lent bytes (accepts .header) (driving (drive.Goto level rate)) enough (packet.only (frame.Read (accepts .header)) bytes (accepts .sound))
       (judge.only _ _ (accepts .header) (driving (drive.Goto level rate)) (messageOf bytes) (accepts .accepted))
 
   goto-dimmer : dimmerIn (respond s goto .next) ≡ set-dimmer
@@ -229,7 +233,7 @@ module _ (s : Switch Plain) (room : ℕ) (bytes : List ℕ) (enough : 48 ≤ roo
   goto-ticks n to e some =
       let t = respond s goto .next in
       shows-as (nthTick t n) _ _ _ _ _ _ goto-mode (ap (λ (d : Dimmer). tickedBy n d .level) goto-dimmer ∙ e) refl
-      (left-to-itself t n (goto-rests .two) (goto-rests .steady) (rest-is-silent t n goto-rests) some)
+      (left-to-itself t n (goto-rests .count) (goto-rests .steady) (rest-is-silent t n goto-rests) some)
 
   -- A capable dimmer takes the level and the rate as they are asked for.
   goto-moves : level ≤ 100 → rate ≤ 15
@@ -256,19 +260,20 @@ module _ (s : Switch Plain) (room : ℕ) (bytes : List ℕ) (enough : 48 ≤ roo
 
 -- ---- (i): the colours after a start
 
+pub fresh-at : (n i : ℕ) → getD (freshFrom n) i freshPaddle ≡ freshPaddle
+unfolding freshFrom
+fresh-at zero i = refl
+fresh-at (suc n) zero = refl
+fresh-at (suc n) (suc i) = fresh-at n i
+
 start-rests : (image : List ℕ) → AtRest (startedFrom image)
-unfolding startedFrom woken paddleOf down started
+unfolding startedFrom woken down started
 start-rests image = record {
-  two = refl;
+  count = fresh-count;
   steady = refl;
-  up = λ contact. ap (λ (p : Paddle). p .local || p .slave) (two-fresh (contact % 2));
-  untapped = λ contact. ap (λ (p : Paddle). p .taps) (two-fresh (contact % 2));
+  up = λ contact. ap (λ (p : Paddle). p .local || p .slave) (fresh-at paddleCount (paddleOf contact));
+  untapped = λ contact. ap (λ (p : Paddle). p .taps) (fresh-at paddleCount (paddleOf contact));
 }
-  where
-    two-fresh : (i : ℕ) → getD freshPaddles i freshPaddle ≡ freshPaddle
-    two-fresh zero = refl
-    two-fresh (suc zero) = refl
-    two-fresh (suc (suc i)) = refl
 
 start-idle : (image : List ℕ) → dimmerIn (startedFrom image) .motion ≡ Idle
 unfolding startedFrom woken started freshDimmer
@@ -298,7 +303,7 @@ module _ (image : List ℕ) (whole : length image ≡ size) (two : getD image 0x
       let s = startedFrom image in
       let p = plainTicked (suc k) (s .plain) in
       let rest = start-rests image in
-      ap (λ a. a .shown .answer .colour) (tick-after k s (silent-quiet (suc k) s (rest .two) (rest-is-silent s (suc k) rest)))
+      ap (λ a. a .shown .answer .colour) (tick-after k s (silent-quiet (suc k) s (rest .count) (rest-is-silent s (suc k) rest)))
       ∙ version-shows (suc k) freshLamp (p .core .mode) (digitIn (p .registers)) (lightIn (p .registers)) (p .core .dimmer .level) refl (omega arith)
       ∙ ap (λ (n : ℕ). versionAfter n (suc k)) (ap (λ (n : ℕ). n % 16) (registers-agree (suc k) (s .plain) 0x0B (λ e. omega arith)) ∙ start-digit image ∙ two)
 
@@ -316,7 +321,7 @@ unfolding startedFrom woken apart started startLevel benchImage zeros applied co
 bench-there = record { network = refl; unit = refl; level = refl; mode = refl; capable = refl }
 
 bench-darkens : dimmerBy (Taps 1) 0 (startedFrom benchImage) .level ≡ off
-unfolding startedFrom woken apart started startLevel benchImage zeros applied counterPlace oneMore stored optionsOf stepOf freshDimmer acted actedIn actedInNormal tapsInNormal unwritten byAction setting setBy singleIn setTo allowed wanted rateOf headingTo ticksPerStep paddleOf
+unfolding startedFrom woken apart started startLevel benchImage zeros applied counterPlace oneMore stored optionsOf stepOf freshDimmer acted actedIn actedInNormal tapsInNormal unwritten byAction setting loaded drives setBy singleIn setTo allowed wanted rateOf headingTo ticksPerStep paddleOf
 bench-darkens = refl
 
 bench-linked : found (startedFrom benchImage .plain .registers) 3 ≡ At 0
@@ -341,7 +346,7 @@ accepts bytes level rate read message = record {
   sound = packet.sound bytes (header true 1 3 9) read;
   accepted = record {
     reached = (λ u. u .1 (sym dark-network), λ u. let there = dark-linked in let z : _≡_ {A = ℕ} 0 1 = cc in omega arith);
-    asked = judge.row tt tt (inl (inl message));
+    asked = judge.terms tt tt (inl (inl message));
   };
 }
 
@@ -360,9 +365,9 @@ cases = record {
   bench = bench-there;
   linked = bench-linked;
   rests = λ image. (start-rests image, start-idle image);
-  a = λ s room enough bench. (a-number s room enough bench, a-sent s room enough bench);
-  b = λ s room i enough bench there. (b-number s room enough bench i there, (b-level s room enough bench i there, b-motion s room enough bench i there));
-  c = λ s room enough bench same. (c-number s room enough bench same, c-mode s room enough bench same);
+  a = λ s lent enough bench. (a-number s lent enough bench, a-sent s lent enough bench);
+  b = λ s lent i enough bench there. (b-number s lent enough bench i there, (b-level s lent enough bench i there, b-motion s lent enough bench i there));
+  c = λ s lent enough bench same. (c-number s lent enough bench same, c-mode s lent enough bench same);
   d = d-number;
   e = e-number;
   f-nothing = λ s contact known rest idle. is-nothing s contact known idle rest _ (omega arith);
@@ -371,8 +376,8 @@ cases = record {
   f-hold = λ s contact known rest idle. is-hold s contact known idle rest;
   f-there = bench-darkens;
   g = λ s contact known rest idle normal. is-double s contact known idle rest _ _ (omega arith) (omega arith) (omega arith) normal;
-  h-half = λ s room bytes enough dark accepts. fades s room bytes enough dark _ _ accepts _ _ _ (omega arith) (omega arith) refl refl (omega arith) (omega arith) (omega arith) refl refl;
-  h-full = λ s room bytes enough dark accepts. fades s room bytes enough dark _ _ accepts _ _ _ (omega arith) (omega arith) refl refl (omega arith) (omega arith) (omega arith) refl refl;
+  h-half = λ s lent bytes enough dark accepts. fades s lent bytes enough dark _ _ accepts _ _ _ (omega arith) (omega arith) refl refl (omega arith) (omega arith) (omega arith) refl refl;
+  h-full = λ s lent bytes enough dark accepts. fades s lent bytes enough dark _ _ accepts _ _ _ (omega arith) (omega arith) refl refl (omega arith) (omega arith) (omega arith) refl refl;
   h-there = (dark-there, (accepts-half, accepts-full));
   i = λ image whole two. colours-shown image whole two _ (omega arith);
   j = case-j;

@@ -7,8 +7,8 @@ pub mod Numbers
 pub mod Ticks
 pub mod Presses
 pub mod Cases
-pub mod Rivals
 pub mod Sequence
+pub mod Rivals
 pub mod Modes
 pub mod Opening
 pub mod Alters

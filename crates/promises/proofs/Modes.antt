@@ -22,8 +22,8 @@ use Rattle.acts.specs.Core.{aged, saved, signalled}
 use Rattle.acts.specs.Gestures.{leads}
 use Rattle.acts.specs.declared.Core.{Core}
 use Rattle.acts.proofs.Laws.{gesture-leads}
+use Rattle.turns.specs.Turns.{Moment, after, turned, turns}
 use Rattle.switch.specs.Switch.{Plain}
-use Rattle.switch.specs.Paddles.{Moment, after, turned, turns}
 use Rattle.switch.specs.Events.{begun, finished, signalledBy, jobOfTick}
 use Rattle.promises.specs.Modes.{FindsModes, modeFor}
 use Rattle.promises.proofs.Jobs.{tick-job}
@@ -63,7 +63,7 @@ pub finds-modes : FindsModes
 unfolding Product.responseOf aged
 finds-modes = record {
   found = λ s i. turns-mode 0 i (s .plain .paddles) (begun (s .plain) (aged (s .plain .core)));
-  left = λ s room enough. rw (tick-job (s .plain) room enough) (tick-mode s);
+  left = λ s lent enough. rw (tick-job (s .plain) lent enough) (tick-mode s);
 }
 
 -- ---- into Setup

@@ -5,18 +5,13 @@ use mathlib.Core.Logic.{_⊎_, inl, inr, ⊎-elim}
 use mathlib.Core.Path.{_≡_, refl, sym, ap, _∙_, subst}
 use Prim.Native.Nat.{ℕ, _≤_}
 use native.Mathlib.Omega.{arith}
-use borrow.Author.Tests.{eqb-false, eqb-true, le-leb, le-ltb, lt-leb, lt-ltb, ltb-false, ltb-true}
-use lib.Dec.{eqb, ltb}
+use borrow.Author.Tests.{eqb-false, eqb-true, le-leb, le-ltb, lt-leb, lt-ltb, ltb-false, ltb-true, leb-true}
+use lib.Dec.{eqb, ltb, leb}
 use lib.ListN.{drop, length}
 use lib.Seq.{set-getD}
 use Rattle.words.specs.Words.{if_then_else_}
 use Rattle.words.proofs.Laws.{both, cases}
 use Rattle.units.specs.Units.{percentOf}
-use Rattle.vault.specs.Job.{Answered, Outcome, Switch, answered, became, changed, done as finally, nothing, outcome, settled, over, followed}
-use Rattle.vault.specs.Product
-use Rattle.vault.specs.Vault.{inSetup, matches}
-use Rattle.vault.specs.declared.Password.{Password}
-use Rattle.vault.proofs.Laws.{equal-matches, matches-equal, respond-done}
 use Rattle.packet.specs.Promises.{ReadRow, Sound}
 use Rattle.packet.specs.Reading.{messageOf, numberOfFrame, readOf}
 use Rattle.packet.specs.declared.Frame.{Frame}
@@ -24,8 +19,19 @@ use Rattle.packet.specs.declared.Frame.the-variants as frame
 use Rattle.packet.specs.declared.Header.{Header}
 use Rattle.packet.specs.Promises as rows
 use Rattle.packet.proofs.Laws as packet
+use Rattle.vault.specs.Job.{Answered, Outcome, Switch, answered, became, changed, done as finally, nothing, outcome, settled, over, followed}
+use Rattle.vault.specs.Product
+use Rattle.vault.specs.Vault.{inSetup, matches}
+use Rattle.vault.specs.declared.Password.{Password}
+use Rattle.vault.proofs.Laws.{equal-matches, matches-equal, respond-done}
 use Rattle.paddle.specs.Paddle.{freshPaddle}
 use Rattle.paddle.proofs.Laws.{pressed-again, released-again}
+use Rattle.model.specs.Model.{kindOf, paddleOf, room, contactCount}
+use Rattle.registers.specs.Places.{size}
+use Rattle.registers.specs.Registers.{numberTaken}
+use Rattle.registers.specs.declared.Taken.the-variants.{Refused}
+use Rattle.registers.specs.Write.{applied, changeAt, changeOf}
+use Rattle.registers.specs.declared.Seen.the-variants as seen
 use Rattle.judge.specs.Judge.{judged}
 use Rattle.judge.specs.declared.Order.{Order}
 use Rattle.judge.specs.declared.Order.the-variants as order
@@ -35,14 +41,10 @@ use Rattle.acts.proofs.Laws.{nothing-acts}
 use Rattle.post.specs.Post.{placed}
 use Rattle.post.specs.declared.Reply.the-variants as reply
 use Rattle.post.proofs.Sending.{announces}
-use Rattle.registers.specs.Places.{size}
-use Rattle.registers.specs.Registers.{numberTaken}
-use Rattle.registers.specs.declared.Taken.the-variants.{Refused}
-use Rattle.registers.specs.Write.{applied, changeAt, changeOf}
-use Rattle.registers.specs.declared.Seen.the-variants as seen
+use Rattle.state.specs.Paddles.{gestureAt, paddleAt, pressedAt, releasedAt}
+use Rattle.turns.specs.Turns.{after, turned}
 use Rattle.switch.specs.Switch.{Deed, Event, Plain, Shown, answerOf, answerWith, event, plain, press, receive, release, restart, shown, tick}
-use Rattle.switch.specs.Paddles.{after, turned}
-use Rattle.switch.specs.Events.{SwitchJob, outcomeOf, jobOfDeed, finished, garbled, gestureAt, jobOfRead, job, kindOf, known, jobOfWork, jobOfGuess, jobOfOrder, paddleAt, paddleOf, pressedAt, jobOfPress, jobOfFrame, jobOfBytes, refused, releasedAt, jobOfRelease, jobOfRestart, signalledBy, jobOfTick}
+use Rattle.switch.specs.Events.{SwitchJob, outcomeOf, jobOfDeed, finished, garbled, jobOfRead, job, known, jobOfWork, jobOfGuess, jobOfOrder, jobOfPress, jobOfFrame, jobOfBytes, refused, jobOfRelease, jobOfRestart, signalledBy, jobOfTick}
 use Rattle.switch.specs.Respond.{noAnswer, startAnswer, startedFrom, wallSwitch}
 use Rattle.promises.proofs.Jobs.{press-job, release-job}
 use Rattle.promises.specs.Numbers.{AlreadySo, DeedRefused, downAt, Exactly, FourteenExactly, Idle, Numbers, OnlyThese, PacketRefused, RefusalsChangeNothing, Row, StartExactly, Or0Or2, WrongGuess, blackened, done, isGarbled, no-room, not-accepted, not-read, numberAt, numberOfStart, refused as row-refused, wrong-password}
@@ -127,17 +129,17 @@ module _ (s : Switch Plain) where
   deed-found : (d : Deed) → Found d (numberIn (s .password) (jobOfDeed d (s .plain)))
   unfolding Found jobOfDeed known jobOfPress jobOfRelease jobOfTick jobOfRestart jobOfBytes finished refused answerOf answerWith settled
   deed-found (press contact) =
-      cases (λ (j : SwitchJob). Found (press contact) (numberIn (s .password) j)) (ltb 3 contact) (λ e. inr (refl, ltb-true 3 contact e)) (λ e. inl refl)
+      cases (λ (j : SwitchJob). Found (press contact) (numberIn (s .password) j)) (leb contactCount contact) (λ e. inr (refl, leb-true contactCount contact e)) (λ e. inl refl)
   deed-found (release contact) =
-      cases (λ (j : SwitchJob). Found (release contact) (numberIn (s .password) j)) (ltb 3 contact) (λ e. inr (refl, ltb-true 3 contact e)) (λ e. inl refl)
+      cases (λ (j : SwitchJob). Found (release contact) (numberIn (s .password) j)) (leb contactCount contact) (λ e. inr (refl, leb-true contactCount contact e)) (λ e. inl refl)
   deed-found tick = inl refl
   deed-found (receive bytes) = frame-found bytes (readOf bytes) refl
   deed-found restart = inl refl
 
   deed-only : (d : Deed) (n : ℕ) → DeedRefused s d n → numberIn (s .password) (jobOfDeed d (s .plain)) ≡ n
   unfolding jobOfDeed known refused answerOf answerWith settled
-  deed-only (press contact) n r = rw (lt-ltb 3 contact (r .1)) (sym (r .0))
-  deed-only (release contact) n r = rw (lt-ltb 3 contact (r .1)) (sym (r .0))
+  deed-only (press contact) n r = rw (le-leb contactCount contact (r .1)) (sym (r .0))
+  deed-only (release contact) n r = rw (le-leb contactCount contact (r .1)) (sym (r .0))
   deed-only tick n r = absurd r
   deed-only (receive bytes) n r = packet-only bytes n r
   deed-only restart n r = absurd r
@@ -155,24 +157,24 @@ module _ (s : Switch Plain) where
   row e =
       let w = s .password in
       let d = e .deed in
-      cases (λ (j : SwitchJob). Row s e (numberIn w j)) (ltb (e .room) 48) (λ h. no-room (ltb-true _ _ h))
+      cases (λ (j : SwitchJob). Row s e (numberIn w j)) (ltb (e .room) room) (λ h. no-room (ltb-true _ _ h))
       (λ h.
-      let room : 48 ≤ e .room = ltb-false _ _ h in
+      let enough : room ≤ e .room = ltb-false _ _ h in
       ⊎-elim
-      (λ z. subst (λ (n : ℕ). Row s e n) (sym z) (done room (λ n r. deed-above d n r (sym (deed-only d n r) ∙ z))))
-      (λ r. row-refused (numberIn w (jobOfDeed d (s .plain))) room r)
+      (λ z. subst (λ (n : ℕ). Row s e n) (sym z) (done enough (λ n r. deed-above d n r (sym (deed-only d n r) ∙ z))))
+      (λ r. row-refused (numberIn w (jobOfDeed d (s .plain))) enough r)
       (deed-found d))
 
-  by-room : (e : Event) (b : Bool) → ltb (e .room) 48 ≡ b → numberAt s e ≡ (if b then 2 else numberIn (s .password) (jobOfDeed (e .deed) (s .plain)))
+  by-room : (e : Event) (b : Bool) → ltb (e .room) room ≡ b → numberAt s e ≡ (if b then 2 else numberIn (s .password) (jobOfDeed (e .deed) (s .plain)))
   unfolding Product.responseOf job refused answerOf answerWith settled
   by-room e true h = ap (λ (b : Bool). numberIn (s .password) (if b then finally (refused 2 (s .plain)) nothing else jobOfDeed (e .deed) (s .plain))) h
   by-room e false h = ap (λ (b : Bool). numberIn (s .password) (if b then finally (refused 2 (s .plain)) nothing else jobOfDeed (e .deed) (s .plain))) h
 
   row-only : (e : Event) (n : ℕ) → Row s e n → numberAt s e ≡ n
   unfolding Found
-  row-only e n (no-room h) = by-room e true (lt-ltb (e .room) 48 h)
-  row-only e n (row-refused k room r) = by-room e false (le-ltb (e .room) 48 room) ∙ deed-only (e .deed) k r
-  row-only e n (done room none) = by-room e false (le-ltb (e .room) 48 room) ∙ ⊎-elim (λ z. z) (λ r. absurd (none _ r)) (deed-found (e .deed))
+  row-only e n (no-room h) = by-room e true (lt-ltb (e .room) room h)
+  row-only e n (row-refused k enough r) = by-room e false (le-ltb (e .room) room enough) ∙ deed-only (e .deed) k r
+  row-only e n (done enough none) = by-room e false (le-ltb (e .room) room enough) ∙ ⊎-elim (λ z. z) (λ r. absurd (none _ r)) (deed-found (e .deed))
 
 exactly : Exactly
 exactly s e n = (λ z. subst (λ (k : ℕ). Row s e k) z (row s e), row-only s e n)
@@ -201,10 +203,10 @@ wrong-guess-refused s d w =
 fourteen : FourteenExactly
 fourteen s e = (λ z. go (numberAt s e) (row s e) z, λ w. row-only s e 14 (row-refused 14 (w .0) (wrong-guess-refused s (e .deed) (w .1))))
   where
-    go : (n : ℕ) → Row s e n → n ≡ 14 → (48 ≤ e .room) × WrongGuess s (e .deed)
+    go : (n : ℕ) → Row s e n → n ≡ 14 → (room ≤ e .room) × WrongGuess s (e .deed)
     go n (no-room h) z = absurd (omega arith)
-    go n (row-refused k room r) z = (room, fourteen-deed s (e .deed) k r z)
-    go n (done room none) z = absurd (omega arith)
+    go n (row-refused k enough r) z = (enough, fourteen-deed s (e .deed) k r z)
+    go n (done enough none) z = absurd (omega arith)
 
 -- What holds of 0, of 2 and of each number that the deed's rows give holds of the answer's number.
 among : (s : Switch Plain) (e : Event) (P : ℕ → Type 0) → P 0 → P 2 → ((n : ℕ) → DeedRefused s (e .deed) n → P n) → P (numberAt s e)
@@ -212,17 +214,17 @@ among s e P zero two other = go (numberAt s e) (row s e)
   where
     go : (n : ℕ) → Row s e n → P n
     go n (no-room h) = two
-    go n (row-refused k room r) = other k r
-    go n (done room none) = zero
+    go n (row-refused k enough r) = other k r
+    go n (done enough none) = zero
 
 these : OnlyThese
 these = record {
-  press = λ s room contact. among s (event room (press contact)) (λ n. Or0Or2 n ⊎ (n ≡ 3)) (inl (inl refl)) (inl (inr refl)) (λ n r. inr (r .0));
-  release = λ s room contact. among s (event room (release contact)) (λ n. Or0Or2 n ⊎ (n ≡ 3)) (inl (inl refl)) (inl (inr refl)) (λ n r. inr (r .0));
-  tick = λ s room. among s (event room tick) Or0Or2 (inl refl) (inr refl) (λ n r. absurd r);
-  receive = λ s room bytes.
-      among s (event room (receive bytes)) (λ n. Or0Or2 n ⊎ ((4 ≤ n) × (n ≤ 14))) (inl (inl refl)) (inl (inr refl)) (λ n r. inr (packet-range s bytes n r));
-  restart = λ s room. among s (event room restart) Or0Or2 (inl refl) (inr refl) (λ n r. absurd r);
+  press = λ s lent contact. among s (event lent (press contact)) (λ n. Or0Or2 n ⊎ (n ≡ 3)) (inl (inl refl)) (inl (inr refl)) (λ n r. inr (r .0));
+  release = λ s lent contact. among s (event lent (release contact)) (λ n. Or0Or2 n ⊎ (n ≡ 3)) (inl (inl refl)) (inl (inr refl)) (λ n r. inr (r .0));
+  tick = λ s lent. among s (event lent tick) Or0Or2 (inl refl) (inr refl) (λ n r. absurd r);
+  receive = λ s lent bytes.
+      among s (event lent (receive bytes)) (λ n. Or0Or2 n ⊎ ((4 ≤ n) × (n ≤ 14))) (inl (inl refl)) (inl (inr refl)) (λ n r. inr (packet-range s bytes n r));
+  restart = λ s lent. among s (event lent restart) Or0Or2 (inl refl) (inr refl) (λ n r. absurd r);
 }
 
 -- A start's number, by the image's length.
@@ -294,15 +296,15 @@ module _ (s : Switch Plain) where
 
   deed-quiet : (d : Deed) → Quietly s (jobOfDeed d (s .plain))
   unfolding jobOfDeed known jobOfPress jobOfRelease jobOfTick jobOfRestart jobOfBytes finished answerOf answerWith settled
-  deed-quiet (press contact) = both (Quietly s) (ltb 3 contact) (refused-quiet 3 refl) (λ ne. absurd (ne refl))
-  deed-quiet (release contact) = both (Quietly s) (ltb 3 contact) (refused-quiet 3 refl) (λ ne. absurd (ne refl))
+  deed-quiet (press contact) = both (Quietly s) (leb contactCount contact) (refused-quiet 3 refl) (λ ne. absurd (ne refl))
+  deed-quiet (release contact) = both (Quietly s) (leb contactCount contact) (refused-quiet 3 refl) (λ ne. absurd (ne refl))
   deed-quiet tick = λ ne. absurd (ne refl)
   deed-quiet (receive bytes) = frame-quiet (readOf bytes) (messageOf bytes)
   deed-quiet restart = λ ne. absurd (ne refl)
 
   job-quiet : (e : Event) → Quietly s (job (s .plain) e)
   unfolding job
-  job-quiet e = both (Quietly s) (ltb (e .room) 48) (refused-quiet 2 refl) (deed-quiet (e .deed))
+  job-quiet e = both (Quietly s) (ltb (e .room) room) (refused-quiet 2 refl) (deed-quiet (e .deed))
 
 refusals : RefusalsChangeNothing
 unfolding Product.responseOf placed
@@ -342,8 +344,8 @@ idle s e h =
 
 already : AlreadySo
 already = record {
-  press = λ s room contact h k d. idle s _ (press-job (s .plain) room contact h k ∙ pressing-idle contact s d);
-  release = λ s room contact h k d. idle s _ (release-job (s .plain) room contact h k ∙ releasing-idle contact s d);
+  press = λ s lent contact h k d. idle s _ (press-job (s .plain) lent contact h k ∙ pressing-idle contact s d);
+  release = λ s lent contact h k d. idle s _ (release-job (s .plain) lent contact h k ∙ releasing-idle contact s d);
 }
 
 -- All that is promised of the numbers.

@@ -5,16 +5,9 @@ use mathlib.Core.Logic.{_⊎_, inl, inr, ⊎-elim}
 use mathlib.Core.Path.{_≡_, refl, sym, ap, _∙_, subst}
 use Prim.Native.Nat.{ℕ, _≤_}
 use borrow.Author.Tests.{ltb-false}
-use lib.Dec.{ltb}
+use lib.Dec.{ltb, leb}
 use lib.ListN.{drop, length}
 use Rattle.words.proofs.Laws.{both, cases}
-use Rattle.vault.specs.Job.{Outcome, Switch, answered, settled}
-use Rattle.vault.specs.Product
-use Rattle.vault.specs.Vault.{inSetup, matches}
-use Rattle.vault.specs.declared.Mode.{Mode}
-use Rattle.vault.specs.declared.Mode.the-variants.{Normal, Setup}
-use Rattle.vault.specs.declared.Password.{Password}
-use Rattle.vault.proofs.Laws.{equal-matches, matches-equal, respond-right}
 use Rattle.packet.specs.Layout.{packed}
 use Rattle.packet.specs.Promises.{Ranges, Sound}
 use Rattle.packet.specs.Reading.{messageOf, readOf}
@@ -23,7 +16,15 @@ use Rattle.packet.specs.declared.Frame.the-variants as frame
 use Rattle.packet.specs.declared.Header.{Header}
 use Rattle.packet.proofs.Laws as packet
 use Rattle.packet.proofs.Inverse.{reads-back}
+use Rattle.vault.specs.Job.{Outcome, Switch, answered, settled}
+use Rattle.vault.specs.Product
+use Rattle.vault.specs.Vault.{inSetup, matches}
+use Rattle.vault.specs.declared.Mode.{Mode}
+use Rattle.vault.specs.declared.Mode.the-variants.{Normal, Setup}
+use Rattle.vault.specs.declared.Password.{Password}
+use Rattle.vault.proofs.Laws.{equal-matches, matches-equal, respond-right}
 use Rattle.paddle.specs.declared.Paddle.{Paddle}
+use Rattle.model.specs.Model.{paddleOf, room, contactCount}
 use Rattle.registers.specs.Places.{networkIn, unitIn}
 use Rattle.registers.specs.declared.Seen.the-variants as seen
 use Rattle.judge.specs.Judge.{judged}
@@ -37,9 +38,10 @@ use Rattle.acts.specs.Core.{entering, opened, started, signalled, unwritten}
 use Rattle.acts.proofs.Laws.{work-leads}
 use Rattle.acts.specs.Code.{workLeads}
 use Rattle.post.specs.declared.Reply.the-variants as reply
+use Rattle.state.specs.Paddles.{gestureAt}
+use Rattle.turns.specs.Turns.{Moment, turned}
 use Rattle.switch.specs.Switch.{Deed, Plain, Shown, answerOf, answerWith, event, press, receive, release, restart, tick}
-use Rattle.switch.specs.Paddles.{Moment, turned}
-use Rattle.switch.specs.Events.{SwitchJob, outcomeOf, begun, jobOfDeed, finished, garbled, gestureAt, jobOfRead, job, known, plainAfter, jobOfWork, jobOfGuess, jobOfOrder, paddleOf, jobOfPress, jobOfFrame, jobOfBytes, refused, jobOfRelease, jobOfRestart, jobOfTick, woken}
+use Rattle.switch.specs.Events.{SwitchJob, outcomeOf, begun, jobOfDeed, finished, garbled, jobOfRead, job, known, plainAfter, jobOfWork, jobOfGuess, jobOfOrder, jobOfPress, jobOfFrame, jobOfBytes, refused, jobOfRelease, jobOfRestart, jobOfTick, woken}
 use Rattle.switch.specs.Respond.{respond, wallSwitch}
 use Rattle.promises.specs.Demand3.{Outside}
 use Rattle.promises.specs.Numbers.{numberAt}
@@ -128,8 +130,8 @@ module _ (s : Switch Plain) (out : Outside s) where
   deed-leads : (d : Deed) → Leads d (jobOfDeed d (s .plain))
   unfolding jobOfDeed known jobOfPress jobOfRestart woken started jobOfBytes refused settled inSetup
   deed-leads (press contact) =
-      both (Leads (press contact)) (ltb 3 contact) (same-mode (press contact) _ refl) (finished-leads (press contact) (begun (s .plain) (s .plain .core)) _ (same-mode (press contact) _ refl))
-  deed-leads (release contact) = both (Leads (release contact)) (ltb 3 contact) (same-mode (release contact) _ refl) (release-leads contact)
+      both (Leads (press contact)) (leb contactCount contact) (same-mode (press contact) _ refl) (finished-leads (press contact) (begun (s .plain) (s .plain .core)) _ (same-mode (press contact) _ refl))
+  deed-leads (release contact) = both (Leads (release contact)) (leb contactCount contact) (same-mode (release contact) _ refl) (release-leads contact)
   deed-leads tick = tick-leads
   deed-leads (receive bytes) = frame-leads bytes (readOf bytes) refl
   deed-leads restart = λ to. absurd (false≢true to)
@@ -137,31 +139,31 @@ module _ (s : Switch Plain) (out : Outside s) where
 only-so : OnlySo
 unfolding Product.responseOf job refused settled
 only-so s e out =
-    cases (λ (j : SwitchJob). inSetup (settled (s .password) j .next .plain .core .mode) ≡ true → (48 ≤ e .room) × So s out (e .deed)) (ltb (e .room) 48)
+    cases (λ (j : SwitchJob). inSetup (settled (s .password) j .next .plain .core .mode) ≡ true → (room ≤ e .room) × So s out (e .deed)) (ltb (e .room) room)
     (λ h to. absurd (true≢false (sym to ∙ out)))
     (λ h to. (ltb-false _ _ h, deed-leads s out (e .deed) to))
 
 -- A right Start Setup opens.
-module _ (s : Switch Plain) (room : ℕ) (d : Deed) (enough : 48 ≤ room) (right : ByPassword s d) where
-  right-job : job (s .plain) (event room d) ≡ jobOfGuess (right .start .guess) (s .plain)
+module _ (s : Switch Plain) (lent : ℕ) (d : Deed) (enough : room ≤ lent) (right : ByPassword s d) where
+  right-job : job (s .plain) (event lent d) ≡ jobOfGuess (right .start .guess) (s .plain)
   unfolding jobOfOrder
   right-job =
       let g = right .start in
-      ap (λ (d : Deed). job (s .plain) (event room d)) (g .received)
-      ∙ receive-job (s .plain) room (g .bytes) (g .asks .header) (order.Guess (g .guess)) enough (packet.only (frame.Read (g .asks .header)) (g .bytes) (g .asks .sound))
+      ap (λ (d : Deed). job (s .plain) (event lent d)) (g .received)
+      ∙ receive-job (s .plain) lent (g .bytes) (g .asks .header) (order.Guess (g .guess)) enough (packet.only (frame.Read (g .asks .header)) (g .bytes) (g .asks .sound))
       (judge.only (s .plain .registers) (s .plain .core .mode) (g .asks .header) (order.Guess (g .guess)) (messageOf (g .bytes)) (g .asks .accepted))
 
-  right-answer : respond s (event room d) ≡ answered (outcomeOf (opened (s .plain .core)) [] 0 reply.Silence (s .plain) seen.Hidden) (s .password)
+  right-answer : respond s (event lent d) ≡ answered (outcomeOf (opened (s .plain .core)) [] 0 reply.Silence (s .plain) seen.Hidden) (s .password)
   unfolding jobOfGuess
   right-answer =
-      respond-right wallSwitch s (event room d) (right .start .guess) (outcomeOf (opened (s .plain .core)) [] 0 reply.Silence (s .plain) seen.Hidden)
+      respond-right wallSwitch s (event lent d) (right .start .guess) (outcomeOf (opened (s .plain .core)) [] 0 reply.Silence (s .plain) seen.Hidden)
       (refused 14 (s .plain)) right-job (equal-matches (s .password) (right .start .guess) (right .right))
 
-  right-number : numberAt s (event room d) ≡ 0
+  right-number : numberAt s (event lent d) ≡ 0
   unfolding outcomeOf answerOf answerWith
   right-number = ap (λ a. a .shown .answer .number) right-answer
 
-  right-mode : respond s (event room d) .next .plain .core .mode ≡ Setup
+  right-mode : respond s (event lent d) .next .plain .core .mode ≡ Setup
   unfolding outcomeOf plainAfter signalled opened entering
   right-mode = ap (λ a. a .next .plain .core .mode) right-answer
 
@@ -186,7 +188,7 @@ own-password s h normal ranges direct network unit nonzero =
           sound = packet.sound (packed h m) h (back .0);
           accepted = record {
             reached = (λ u. ⊎-elim (u .0) (u .1) network, λ u. subst (λ (link : Bool). NotFor link (s .plain .registers) (h .destination)) direct u .1 unit);
-            asked = judge.row (direct, (unit, nonzero)) normal (back .1);
+            asked = judge.terms (direct, (unit, nonzero)) normal (back .1);
           };
         };
       };
@@ -198,6 +200,6 @@ pub opening : Opening
 opening = record {
   only = only-so;
   password = password-opens;
-  opens = λ s room h enough normal ranges direct network unit nonzero.
-      password-opens s (event room (receive (startSetup h (s .password)))) enough (own-password s h normal ranges direct network unit nonzero) .1;
+  opens = λ s lent h enough normal ranges direct network unit nonzero.
+      password-opens s (event lent (receive (startSetup h (s .password)))) enough (own-password s h normal ranges direct network unit nonzero) .1;
 }

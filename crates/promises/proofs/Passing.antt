@@ -21,6 +21,7 @@ use Rattle.paddle.specs.declared.Gesture.{Gesture}
 use Rattle.paddle.specs.declared.Gesture.the-variants as gestures
 use Rattle.paddle.specs.declared.Paddle.{Paddle}
 use Rattle.paddle.proofs.Laws.{either}
+use Rattle.model.specs.Model.{room}
 use Rattle.registers.specs.Places.{counterPlace, savedPlace}
 use Rattle.registers.specs.Write.{byteAfter, byteSet, oneMore, factoryAt, sets, between}
 use Rattle.registers.specs.declared.places.Counter.the-variants.{Setups}
@@ -33,9 +34,9 @@ use Rattle.promises.specs.Alters.{Writing, bare, byDeed, byPaddles, bySa
 use Rattle.promises.specs.Demand3.{Outside}
 use Rattle.promises.specs.Modes.{Closes, modeFor}
 use Rattle.promises.specs.Opening.{ByFiveTaps}
-use Rattle.promises.specs.Passing.{BothClose, EveryTick, FactoryExactly, FactoryFromOutside, OfTwoPaddles, PassesUnseen, SetsFactory, UnseenCounts, UnseenExactly, closed, countedBy, openings, opens, reset, resets, tickedByte}
+use Rattle.promises.specs.Passing.{EveryTick, FactoryExactly, FactoryFromOutside, OpensAndLeaves, PassesUnseen, UnseenByTaps, UnseenCounts, UnseenExactly, closed, countedBy, openings, opens, reset, resets, tickedByte}
 use Rattle.promises.proofs.Alters.{alters}
-use Rattle.promises.proofs.Modes.{finds-modes, leads-open, not-outside, opened}
+use Rattle.promises.proofs.Modes.{finds-modes, not-outside, opened}
 use Rattle.promises.proofs.Opening.{opening}
 
 -- ---- what the gestures of a tick write
@@ -178,9 +179,9 @@ tick-byte mode ps save level place old = at-counter (eqb place (counterPlace Set
 
 pub every-tick : EveryTick
 unfolding writesOf byDeed tickedByte
-every-tick s room place enough long h =
-    alters .equation s (event room tick) place long h ∙ rw (le-ltb room 48 enough)
-    (tick-byte (s .plain .core .mode) (s .plain .paddles) (s .plain .core .save) (respond s (event room tick) .next .plain .core .dimmer .level) place (byteAt s place))
+every-tick s lent place enough long h =
+    alters .equation s (event lent tick) place long h ∙ rw (le-ltb lent room enough)
+    (tick-byte (s .plain .core .mode) (s .plain .paddles) (s .plain .core .save) (respond s (event lent tick) .next .plain .core .dimmer .level) place (byteAt s place))
 
 -- ---- which gestures do it
 
@@ -299,7 +300,7 @@ unseen-counts s p =
     let by = enters-by s p in
     entries-some (s .plain .core .mode) (s .plain .paddles) (by .paddle) (by .closes .there) (by .closes .taps) (by .closes .finds)
 
--- ---- two paddles
+-- ---- the taps of such a tick
 
 -- Out of Setup lead two taps and ten.
 leads-out : (g : Gesture) → inSetup (leads Setup g) ≡ false → (g ≡ gestures.Taps 2) ⊎ (g ≡ gestures.Taps 10)
@@ -313,62 +314,142 @@ leads-out (gestures.Taps n) e =
 leads-out gestures.Hold e = absurd (true≢false e)
 leads-out gestures.Release e = absurd (true≢false e)
 
-first-finds : (mode : Mode) (ps : List Paddle) → modeFor mode ps 0 ≡ mode
-unfolding modeFor
-first-finds mode [] = refl
-first-finds mode (p ∷ ps) = refl
+out-leads : (g : Gesture) → (g ≡ gestures.Taps 2) ⊎ (g ≡ gestures.Taps 10) → inSetup (leads Setup g) ≡ false
+unfolding leads inSetup
+out-leads g taps = ⊎-elim (λ two. ap (λ (h : Gesture). inSetup (leads Setup h)) two) (λ ten. ap (λ (h : Gesture). inSetup (leads Setup h)) ten) taps
 
-module _ (s : Switch Plain) (two : length (s .plain .paddles) ≡ 2) where
-  abbrev finds : ℕ → Mode
-  finds i = modeFor (s .plain .core .mode) (s .plain .paddles) i
+is-setup : (mode : Mode) → inSetup mode ≡ true → mode ≡ Setup
+unfolding inSetup
+is-setup Normal e = absurd (true≢false (sym e))
+is-setup Setup e = refl
+is-setup Factory e = absurd (true≢false (sym e))
 
-  abbrev completes : ℕ → Gesture
-  completes i = gesture (getD (s .plain .paddles) i freshPaddle)
+-- A paddle closes five taps and finds Normal.
+abbrev OpensAt : Mode → List Paddle → ℕ → Type 0
+OpensAt mode ps i = (i < length ps) × ((gesture (getD ps i freshPaddle) ≡ gestures.Taps 5) × (modeFor mode ps i ≡ Normal))
 
-  second-finds : finds 1 ≡ leads (s .plain .core .mode) (completes 0)
-  second-finds =
-      next-finds (s .plain .core .mode) (s .plain .paddles) 0 (omega arith)
-      ∙ ap (λ (mode : Mode). leads mode (completes 0)) (first-finds (s .plain .core .mode) (s .plain .paddles))
+-- The last way out of Setup: two or ten taps that find it, and no opening after them.
+record Left (mode : Mode) (ps : List Paddle) : Type 0 where
+  paddle : ℕ
+  there : paddle < length ps
+  taps : (gesture (getD ps paddle freshPaddle) ≡ gestures.Taps 2) ⊎ (gesture (getD ps paddle freshPaddle) ≡ gestures.Taps 10)
+  finds : modeFor mode ps paddle ≡ Setup
+  last : (i : ℕ) → paddle < i → OpensAt mode ps i → ⊥
 
-  end-finds : finds (length (s .plain .paddles)) ≡ leads (finds 1) (completes 1)
-  end-finds = rw two (next-finds (s .plain .core .mode) (s .plain .paddles) 1 (omega arith))
+-- No paddle finds Setup.
+abbrev Never : Mode → List Paddle → Type 0
+Never mode ps = (i : ℕ) → i < length ps → modeFor mode ps i ≡ Setup → ⊥
 
-  pub end-mode : (count : ℕ) → BothClose s count → finds (length (s .plain .paddles)) ≡ leads Setup (gestures.Taps count)
+module _ (mode : Mode) (ps : List Paddle) (never : Never mode ps) (end : inSetup (modeFor mode ps (length ps)) ≡ false) where
+  none-opens : (i : ℕ) → OpensAt mode ps i → ⊥
   unfolding leads
-  end-mode count b = end-finds ∙ ap₂ leads (second-finds ∙ ap₂ leads (b .mode) (b .top)) (b .bottom)
-
-  pub both-pass : (count : ℕ) → BothClose s count → inSetup (leads Setup (gestures.Taps count)) ≡ false → PassesUnseen s
-  unfolding inSetup leads
-  both-pass count b shut =
-      let setup : finds 1 ≡ Setup = second-finds ∙ ap₂ leads (b .mode) (b .top) in
-      record {
-        before = ap inSetup (b .mode);
-        paddle = 1;
-        there = omega arith;
-        finds = setup;
-        after = ap inSetup (end-mode count b) ∙ shut;
-      }
-
-  pub ten-found : BothClose s 10 → SetsFactory s
-  unfolding leads
-  ten-found b = record { paddle = 1; closes = record { there = omega arith; taps = b .bottom; finds = second-finds ∙ ap₂ leads (b .mode) (b .top) } }
-
-  pass-both : PassesUnseen s → BothClose s 2 ⊎ BothClose s 10
-  unfolding inSetup
-  pass-both p =
-      two-ways (p .paddle) 1
+  none-opens i o =
+      let next : modeFor mode ps (suc i) ≡ Setup = next-finds mode ps i (o .0) ∙ ap₂ leads (o .1 .1) (o .1 .0) in
+      two-ways (suc i) (length ps) (λ more. never (suc i) more next)
       (λ none.
-      let top : p .paddle ≡ 0 = omega arith in
-      absurd (not-outside _ (sym (first-finds (s .plain .core .mode) (s .plain .paddles)) ∙ subst (λ (i : ℕ). finds i ≡ Setup) top (p .finds)) (p .before)))
-      (λ some.
-      let bottom : p .paddle ≡ 1 = omega (arith, p .there) in
-      let setup : finds 1 ≡ Setup = subst (λ (i : ℕ). finds i ≡ Setup) bottom (p .finds) in
-      let five = leads-open (s .plain .core .mode) (completes 0) (p .before) (ap inSetup (sym second-finds ∙ setup)) in
-      ⊎-elim
-      (λ taps. inl (record { mode = five .0; top = five .1; bottom = taps }))
-      (λ taps. inr (record { mode = five .0; top = five .1; bottom = taps }))
-      (leads-out (completes 1) (ap inSetup (ap (λ (mode : Mode). leads mode (completes 1)) (sym setup) ∙ sym end-finds) ∙ p .after)))
+      let e : length ps ≡ suc i = omega (arith, o .0) in
+      not-outside _ next (subst (λ (n : ℕ). inSetup (modeFor mode ps n) ≡ false) e end))
 
-pub of-two-paddles : OfTwoPaddles
-unfolding inSetup leads
-of-two-paddles s sane = (pass-both s (sane .paddles), ⊎-elim (λ b. both-pass s (sane .paddles) 2 b refl) (λ b. both-pass s (sane .paddles) 10 b refl))
+-- A tick that finds Setup nowhere and ends outside began outside.
+began-outside : (mode : Mode) (ps : List Paddle) → Never mode ps → inSetup (modeFor mode ps (length ps)) ≡ false → inSetup mode ≡ false
+unfolding modeFor
+began-outside mode [] never end = end
+began-outside mode (p ∷ ps) never end = go (inSetup mode) refl
+  where
+    go : (b : Bool) → inSetup mode ≡ b → inSetup mode ≡ false
+    go true e = absurd (never 0 (omega arith) (is-setup mode e))
+    go false e = e
+
+module _ (mode : Mode) (p : Paddle) (ps : List Paddle) where
+  left-later : Left (leads mode (gesture p)) ps → Left mode (p ∷ ps)
+  unfolding modeFor
+  left-later l = record { paddle = suc (l .paddle); there = omega (arith, l .there); taps = l .taps; finds = l .finds; last = last }
+    where
+      last : (i : ℕ) → suc (l .paddle) < i → OpensAt mode (p ∷ ps) i → ⊥
+      last zero after o = absurd (omega arith)
+      last (suc i) after o = l .last i (omega arith) (omega (arith, o .0), (o .1 .0, o .1 .1))
+
+  module _ (never : Never (leads mode (gesture p)) ps) (end : inSetup (modeFor (leads mode (gesture p)) ps (length ps)) ≡ false) where
+    left-here : mode ≡ Setup → Left mode (p ∷ ps)
+    unfolding modeFor
+    left-here setup = record {
+      paddle = 0;
+      there = omega arith;
+      taps = leads-out (gesture p) (ap (λ (m : Mode). inSetup (leads m (gesture p))) (sym setup) ∙ began-outside (leads mode (gesture p)) ps never end);
+      finds = setup;
+      last = last;
+    }
+      where
+        last : (i : ℕ) → 0 < i → OpensAt mode (p ∷ ps) i → ⊥
+        last zero after o = absurd (omega arith)
+        last (suc i) after o = none-opens (leads mode (gesture p)) ps never end i (omega (arith, o .0), (o .1 .0, o .1 .1))
+
+    never-here : inSetup mode ≡ false → Never mode (p ∷ ps)
+    unfolding modeFor
+    never-here out zero there finds = not-outside mode finds out
+    never-here out (suc i) there finds = never i (omega arith) finds
+
+    left-or-never : Left mode (p ∷ ps) ⊎ Never mode (p ∷ ps)
+    left-or-never = go (inSetup mode) refl
+      where
+        go : (b : Bool) → inSetup mode ≡ b → Left mode (p ∷ ps) ⊎ Never mode (p ∷ ps)
+        go true e = inl (left-here (is-setup mode e))
+        go false e = inr (never-here e)
+
+last-left : (mode : Mode) (ps : List Paddle) → inSetup (modeFor mode ps (length ps)) ≡ false → Left mode ps ⊎ Never mode ps
+unfolding modeFor
+last-left mode [] end = inr (λ i there finds. absurd (omega arith))
+last-left mode (p ∷ ps) end =
+    ⊎-elim (λ l. inl (left-later mode p ps l)) (λ never. left-or-never mode p ps never end) (last-left (leads mode (gesture p)) ps end)
+
+-- From the last way out the tick ends outside.
+ends-outside : (mode : Mode) (ps : List Paddle) (i : ℕ) → i < length ps → modeFor mode ps i ≡ Setup → inSetup (leads Setup (gesture (getD ps i freshPaddle))) ≡ false
+    → ((j : ℕ) → i < j → OpensAt mode ps j → ⊥) → inSetup (modeFor mode ps (length ps)) ≡ false
+unfolding modeFor
+ends-outside mode [] i there finds out last = absurd (omega arith)
+ends-outside mode (p ∷ ps) (suc i) there finds out last =
+    ends-outside (leads mode (gesture p)) ps i (omega arith) finds out (λ j after o. last (suc j) (omega arith) (omega (arith, o .0), (o .1 .0, o .1 .1)))
+ends-outside mode (p ∷ ps) zero there finds out last = go (inSetup (modeFor (leads mode (gesture p)) ps (length ps))) refl
+  where
+    go : (b : Bool) → inSetup (modeFor (leads mode (gesture p)) ps (length ps)) ≡ b → inSetup (modeFor (leads mode (gesture p)) ps (length ps)) ≡ false
+    go true e =
+        let f = opened (leads mode (gesture p)) ps (length ps) (ap (λ (m : Mode). inSetup (leads m (gesture p))) finds ∙ out) e in
+        absurd (last (suc (f .paddle)) (omega arith) (omega (arith, f .there), (f .five, f .finds)))
+    go false e = e
+
+passes-by : (s : Switch Plain) → PassesUnseen s → OpensAndLeaves s
+unfolding inSetup
+passes-by s p =
+    let mode = s .plain .core .mode in
+    let ps = s .plain .paddles in
+    ⊎-elim
+    (λ l.
+    let f = opened mode ps (l .paddle) (p .before) (ap inSetup (l .finds)) in
+    record {
+      before = p .before;
+      opener = f .paddle;
+      opens = record { there = f .there; taps = f .five; finds = f .finds };
+      leaver = l .paddle;
+      later = f .earlier;
+      leaves = ⊎-elim (λ two. inl record { there = l .there; taps = two; finds = l .finds }) (λ ten. inr record { there = l .there; taps = ten; finds = l .finds }) (l .taps);
+      last = λ i after c. l .last i after (c .there, (c .taps, c .finds));
+    })
+    (λ never. absurd (never (p .paddle) (p .there) (p .finds)))
+    (last-left mode ps (p .after))
+
+by-passes : (s : Switch Plain) → OpensAndLeaves s → PassesUnseen s
+by-passes s o = ⊎-elim (λ two. from 2 two (inl (two .taps))) (λ ten. from 10 ten (inr (ten .taps))) (o .leaves)
+  where
+    from : (count : ℕ) → Closes s (o .leaver) Setup count
+        → (gesture (getD (s .plain .paddles) (o .leaver) freshPaddle) ≡ gestures.Taps 2) ⊎ (gesture (getD (s .plain .paddles) (o .leaver) freshPaddle) ≡ gestures.Taps 10) → PassesUnseen s
+    from count c taps = record {
+      before = o .before;
+      paddle = o .leaver;
+      there = c .there;
+      finds = c .finds;
+      after = ends-outside (s .plain .core .mode) (s .plain .paddles) (o .leaver) (c .there) (c .finds) (out-leads _ taps)
+          (λ i after a. o .last i after record { there = a .0; taps = a .1 .0; finds = a .1 .1 });
+    }
+
+pub unseen-by-taps : UnseenByTaps
+unseen-by-taps s = (passes-by s, by-passes s)

@@ -11,6 +11,7 @@ use Rattle.words.proofs.Laws.{cases, two-ways}
 use Rattle.vault.specs.Job.{Switch}
 use Rattle.vault.specs.Machine.{run}
 use Rattle.vault.specs.Vault.{inSetup}
+use Rattle.model.specs.Model.{room}
 use Rattle.registers.specs.Places.{savedPlace, size}
 use Rattle.registers.specs.Write.{byteAfter, byteSet, factoryAt, sets}
 use Rattle.registers.specs.declared.write.Write.the-variants as write
@@ -75,16 +76,16 @@ stays-outside s e out no-entry = go (inSetup (respond s e .next .plain .core .mo
     go false to = to
 
 -- A refused event for want of room writes nothing.
-no-room : (s : Switch Plain) (e : Event) (place : ℕ) → Sane (s .plain) → place < size → e .room < 48 → byteAt (respond s e .next) place ≡ byteAt s place
+no-room : (s : Switch Plain) (e : Event) (place : ℕ) → Sane (s .plain) → place < size → e .room < room → byteAt (respond s e .next) place ≡ byteAt s place
 unfolding writesOf
 no-room s e place sane h short =
-    alters .others s e place (sane .registers) h (cases (EachWrite (Misses place)) (ltb (e .room) 48) (λ _. tt) (λ f. let enough = ltb-false (e .room) 48 f in absurd (omega arith)))
+    alters .others s e place (sane .registers) h (cases (EachWrite (Misses place)) (ltb (e .room) room) (λ _. tt) (λ f. let enough = ltb-false (e .room) room f in absurd (omega arith)))
 
 -- And alters a preset by Store Preset alone.
 only-stored : (s : Switch Plain) (e : Event) → Sane (s .plain) → Outside s → (Enters s e → ⊥) → OnlyStored s e
 unfolding inSetup
 only-stored s e sane out no-entry place h =
-    two-ways (e .room) 48
+    two-ways (e .room) room
     (λ short. inl (no-room s e place sane (omega arith) short))
     (λ enough.
     by-three-ways s e place (λ n. (n ≡ byteAt s place) ⊎ StoredAt s (e .deed) place n) (preset-apart place h) sane (omega arith)

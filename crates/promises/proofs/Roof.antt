@@ -2,8 +2,8 @@
 use Rattle.packet.proofs.Laws.{exactly, exactly-written, one-written}
 use Rattle.packet.proofs.Inverse.{reads-back, reads-back-lent, worked, writes-back, writes-back-lent}
 use Rattle.post.proofs.Sending.{announced-reads, announces, hides, replied-reads}
-use Rattle.host.proofs.Laws.{keeps-what-it-read, mirrors-back, refused-start-leaves-all, start-forgets}
-use Rattle.host.proofs.Laws.{one-outcome as speaks-one-way}
+use Rattle.host.specs.Host.{inFigures}
+use Rattle.host.proofs.Laws.{keeps-what-it-read, mirrors-back, refused-start-leaves-all, start-forgets, one-outcome as speaks-one-way}
 use Rattle.promises.specs.Roof.{AnsweredFor, Besides, Demand1, Demand2, Library, OneLayout}
 use Rattle.promises.proofs.Demand3.{demand-3}
 use Rattle.promises.proofs.Bounds.{within-bounds}
@@ -11,7 +11,7 @@ use Rattle.promises.proofs.Numbers.{numbers}
 use Rattle.promises.proofs.Ticks.{by-itself}
 use Rattle.promises.proofs.Cases.{cases}
 use Rattle.promises.proofs.Rivals.{one-outcome, shuts-out}
-use Rattle.promises.proofs.Sequence.{after-any-calls, after-any-spoken}
+use Rattle.promises.proofs.Sequence.{after-any-calls}
 use Rattle.promises.proofs.Modes.{finds-modes}
 use Rattle.promises.proofs.Opening.{opening}
 use Rattle.promises.proofs.Alters.{alters}
@@ -41,8 +41,8 @@ library = record { back = mirrors-back; keeps = keeps-what-it-read; forgets = st
 
 demand-2 : Demand2
 demand-2 = record {
-  calls = after-any-calls;
-  spoken = after-any-spoken;
+  calls = after-any-calls (λ a. a);
+  spoken = after-any-calls inFigures;
   outcome = one-outcome;
   shuts-out = shuts-out;
   bounds = within-bounds;

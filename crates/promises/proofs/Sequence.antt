@@ -1,34 +1,66 @@
 -- After any sequence of calls.
 use mathlib.Core.List.{List, [], _∷_}
-use mathlib.Core.Path.{_≡_, refl, sym, ap, ap₂, _∙_, subst}
+use mathlib.Core.Path.{_≡_, refl, ap₂, _∙_, subst}
 use Prim.Native.Nat.{ℕ}
-use lib.ListN.{length, replicate}
+use lib.ListN.{length, length-replicate, replicate}
 use borrow.Author.Tests.{eq-eqb}
-use Rattle.vault.specs.Job.{Switch}
+use Rattle.vault.specs.Job.{Answered, Switch}
 use Rattle.vault.specs.Machine.{run, transcript}
 use Rattle.registers.specs.Places.{size}
-use Rattle.switch.specs.Switch.{Plain, held, liveIn}
-use Rattle.switch.specs.Respond.{respond, startAnswer, startNext, startedFrom}
-use Rattle.switch.specs.declared.Answer.{Answer}
-use Rattle.switch.specs.declared.Live.{Live}
 use Rattle.post.specs.Post.{placed}
-use Rattle.host.specs.Host.{responded}
-use Rattle.host.specs.Keeping.{keptCounters, keptNumbers}
-use Rattle.host.specs.Mirror.{inFigures, liveFrom}
-use Rattle.host.specs.declared.Figures.{Figures}
-use Rattle.host.proofs.Laws.{counters-length, mirrors-back, numbers-length}
+use Rattle.state.specs.State.{counterCount, numberCount}
+use Rattle.state.specs.Keeping.{keptCounters, keptNumbers}
+use Rattle.state.specs.Paddles.{byteCount, keptPaddles}
+use Rattle.state.proofs.Laws.{counters-length, numbers-length, paddles-length}
+use Rattle.switch.specs.Switch.{Plain, Shown, switchOf}
+use Rattle.switch.specs.Respond.{Leaves, respond, startAnswer, startedFrom}
+use Rattle.switch.specs.declared.Answer.{Answer}
+use Rattle.switch.specs.Code.{told}
+use Rattle.host.proofs.Laws.{mirrors-back}
 use Rattle.promises.specs.Bounds.{Sane}
 use Rattle.promises.specs.Demand3.{eventOf, filled}
-use Rattle.promises.specs.Sequence.{AfterAnyCalls, AfterAnySpoken, Call, Calls, Given, Spoken, ended, made, said, silent}
+use Rattle.promises.specs.Sequence.{AfterAnyCalls, Call, Calls, Given, ended, made}
 use Rattle.promises.proofs.Bounds.{within-bounds}
 
+-- Four arrays that stand for a switch.
+pub record Stands (s : Switch Plain) (counters numbers paddles all : List ℕ) : Type 0 where
+  pub counted : length counters ≡ counterCount
+  pub numbered : length numbers ≡ numberCount
+  pub moved : length paddles ≡ byteCount
+  pub holds : switchOf counters numbers paddles all ≡ s
+
+-- What is kept of a switch with all its paddles stands for it, whatever stood there.
+pub kept-stands : (s : Switch Plain) (counters numbers paddles : List ℕ) → Sane (s .plain)
+    → length counters ≡ counterCount → length numbers ≡ numberCount → length paddles ≡ byteCount
+    → Stands s (keptCounters (s .plain .core) counters) (keptNumbers (s .plain .core) (s .password) numbers) (keptPaddles (s .plain .paddles) paddles) (s .plain .registers)
+kept-stands s counters numbers paddles sane c n l = record {
+  counted = counters-length (s .plain .core) counters ∙ c;
+  numbered = numbers-length (s .plain .core) (s .password) numbers ∙ n;
+  moved = paddles-length (s .plain .paddles) paddles ∙ l;
+  holds = mirrors-back .switch counters numbers paddles s c n l (sane .paddles);
+}
+
+-- So it is over cleared arrays.
+pub cleared-stands : (s : Switch Plain) → Sane (s .plain)
+    → Stands s (keptCounters (s .plain .core) (replicate counterCount 0)) (keptNumbers (s .plain .core) (s .password) (replicate numberCount 0)) (keptPaddles (s .plain .paddles) (replicate byteCount 0)) (s .plain .registers)
+cleared-stands s sane =
+    kept-stands s (replicate counterCount 0) (replicate numberCount 0) (replicate byteCount 0) sane
+    (length-replicate {A = ℕ} counterCount 0) (length-replicate {A = ℕ} numberCount 0) (length-replicate {A = ℕ} byteCount 0)
+
 module _ {Told : Type 0} (told : Answer → Told) where
+  -- What a call leaves stands for the switch after it.
+  pub leaves-stands : (to : Answered Plain Shown) (counters numbers paddles out : List ℕ) (r : Told) (counters′ numbers′ paddles′ all′ out′ : List ℕ)
+      → Sane (to .next .plain) → length counters ≡ counterCount → length numbers ≡ numberCount → length paddles ≡ byteCount
+      → Leaves told to counters numbers paddles out r counters′ numbers′ paddles′ all′ out′ → Stands (to .next) counters′ numbers′ paddles′ all′
+  leaves-stands to counters numbers paddles out r counters′ numbers′ paddles′ all′ out′ sane c n l h =
+      rw (h .counted, h .numbered, h .moved, h .registers) (kept-stands (to .next) counters numbers paddles sane c n l)
+
   -- No call, and one call more.
-  pub given-none : (s left : Switch Plain) → left ≡ s → Given told s [] left
+  given-none : (s left : Switch Plain) → left ≡ s → Given told s [] left
   unfolding run transcript filled
   given-none s left same = record { answers = refl; buffers = refl; holds = same }
 
-  pub given-more : (s left : Switch Plain) (c : Call Told) (cs : List (Call Told))
+  given-more : (s left : Switch Plain) (c : Call Told) (cs : List (Call Told))
       → c .answer ≡ told (respond s (eventOf (c .lent)) .shown .answer) → c .buffer ≡ placed (respond s (eventOf (c .lent)) .shown .sent) (c .lent .buffer)
       → Given told (respond s (eventOf (c .lent)) .next) cs left → Given told s (c ∷ cs) left
   unfolding run transcript filled
@@ -38,55 +70,25 @@ module _ {Told : Type 0} (told : Answer → Told) where
     holds = rest .holds;
   }
 
-from : (s : Switch Plain) (live live″ : Live) (all all″ : List ℕ) (cs : List (Call Answer)) → held live all ≡ s → Calls live all cs live″ all″ → Given (λ b. b) s cs (held live″ all″)
-from s live live″ all all″ cs same (ended _ _) = given-none (λ b. b) s (held live″ all″) same
-from s live live″ all all″ cs same (made c cs′ _ live′ _ _ all′ _ meets rest) =
-    subst (λ (t : Switch Plain). Given (λ b. b) t (c ∷ cs′) (held live″ all″)) same
-    (given-more (λ b. b) (held live all) (held live″ all″) c cs′ (meets .answered) (meets .bytes)
-    (from (respond (held live all) (eventOf (c .lent)) .next) live′ live″ all′ all″ cs′ (meets .next) rest))
+  from : (s : Switch Plain) (counters counters″ numbers numbers″ paddles paddles″ all all″ : List ℕ) (cs : List (Call Told)) → Sane (s .plain)
+      → Stands s counters numbers paddles all → Calls told counters numbers paddles all cs counters″ numbers″ paddles″ all″
+      → Given told s cs (switchOf counters″ numbers″ paddles″ all″)
+  from s counters counters″ numbers numbers″ paddles paddles″ all all″ cs sane k (ended _ _ _ _) = given-none s _ (k .holds)
+  from s counters counters″ numbers numbers″ paddles paddles″ all all″ cs sane k (made c cs′ _ counters′ _ _ numbers′ _ _ paddles′ _ _ all′ _ meets rest) =
+      let t = respond s (eventOf (c .lent)) in
+      let leaves = subst (λ (u : Switch Plain). Leaves told (respond u (eventOf (c .lent))) counters numbers paddles (c .lent .buffer) (c .answer) counters′ numbers′ paddles′ all′ (c .buffer)) (k .holds) meets in
+      let stays = within-bounds .stays s (eventOf (c .lent)) sane in
+      given-more s _ c cs′ (leaves .answered) (leaves .bytes)
+      (from (t .next) counters′ counters″ numbers′ numbers″ paddles′ paddles″ all′ all″ cs′ stays
+      (leaves-stands t counters numbers paddles (c .lent .buffer) (c .answer) counters′ numbers′ paddles′ all′ (c .buffer) stays (k .counted) (k .numbered) (k .moved) leaves) rest)
 
-pub after-any-calls : AfterAnyCalls
-unfolding startAnswer startNext
-after-any-calls image all a live live″ all′ all″ cs long starts calls =
-    let whole = eq-eqb (length image) size long in
-    (starts .answered ∙ rw whole, from (startedFrom image) live live″ all′ all″ cs (starts .next ∙ rw whole) calls)
-
--- ---- the C library
-
--- Counters and numbers that stand for a switch of two paddles.
-record Stands (s : Switch Plain) (counters numbers all : List ℕ) : Type 0 where
-  counted : length counters ≡ 11
-  numbered : length numbers ≡ 14
-  holds : held (liveFrom counters numbers) all ≡ s
-
--- A switch that was started has two paddles, so what is kept of it stands for it.
-kept-stands : (t : Switch Plain) (counters numbers all : List ℕ) → Sane (t .plain) → length counters ≡ 11 → length numbers ≡ 14 → all ≡ t .plain .registers
-    → Stands t (keptCounters (liveIn t) counters) (keptNumbers (liveIn t) numbers) all
-kept-stands t counters numbers all sane eleven fourteen same = record {
-  counted = counters-length (liveIn t) counters ∙ eleven;
-  numbered = numbers-length (liveIn t) numbers ∙ fourteen;
-  holds = ap₂ held (mirrors-back .live counters numbers (liveIn t) eleven fourteen (sane .paddles)) same;
-}
-
-spoken : (s : Switch Plain) (counters counters″ numbers numbers″ all all″ : List ℕ) (cs : List (Call Figures)) → Sane (s .plain) → Stands s counters numbers all
-    → Spoken counters numbers all cs counters″ numbers″ all″ → Given inFigures s cs (held (liveFrom counters″ numbers″) all″)
-spoken s counters counters″ numbers numbers″ all all″ cs sane k (silent _ _ _) = given-none inFigures s _ (k .holds)
-spoken s counters counters″ numbers numbers″ all all″ cs sane k (said c cs′ _ counters′ _ _ numbers′ _ _ all′ _ meets rest) =
-    let t = respond s (eventOf (c .lent)) in
-    let same : responded (c .lent .deed) counters numbers all (length (c .lent .buffer)) ≡ t = ap (λ (u : Switch Plain). respond u (eventOf (c .lent))) (k .holds) in
-    let keeps = kept-stands (t .next) counters numbers all′ (within-bounds .stays s (eventOf (c .lent)) sane) (k .counted) (k .numbered) (meets .registers ∙ ap (λ a. a .next .plain .registers) same) in
-    let stands = subst (λ (n : List ℕ). Stands (t .next) counters′ n all′) (ap (λ a. keptNumbers (liveIn (a .next)) numbers) (sym same) ∙ sym (meets .numbered))
-    (subst (λ (m : List ℕ). Stands (t .next) m (keptNumbers (liveIn (t .next)) numbers) all′) (ap (λ a. keptCounters (liveIn (a .next)) counters) (sym same) ∙ sym (meets .counted)) keeps) in
-    given-more inFigures s _ c cs′ (meets .answered ∙ ap (λ a. inFigures (a .shown .answer)) same) (meets .bytes ∙ ap (λ a. placed (a .shown .sent) (c .lent .buffer)) same)
-    (spoken (t .next) counters′ counters″ numbers′ numbers″ all′ all″ cs′ (within-bounds .stays s (eventOf (c .lent)) sane) stands rest)
-
-pub after-any-spoken : AfterAnySpoken
-unfolding startAnswer
-after-any-spoken image counters numbers all r counters′ counters″ numbers′ numbers″ all′ all″ cs long begins calls =
-    let whole = eq-eqb (length image) size long in
-    let sane = within-bounds .start image long in
-    let t = startedFrom image in
-    let keeps = kept-stands t (replicate 11 0) (replicate 14 0) all′ sane refl refl (begins .registers ∙ rw whole) in
-    let stands = subst (λ (n : List ℕ). Stands t counters′ n all′) (sym (begins .numbered ∙ rw whole))
-    (subst (λ (m : List ℕ). Stands t m (keptNumbers (liveIn t) (replicate 14 0)) all′) (sym (begins .counted ∙ rw whole)) keeps) in
-    (begins .answered ∙ rw whole, spoken t counters′ counters″ numbers′ numbers″ all′ all″ cs sane stands calls)
+  pub after-any-calls : AfterAnyCalls told
+  unfolding startAnswer
+  after-any-calls image counters numbers paddles all a counters′ counters″ numbers′ numbers″ paddles′ paddles″ all′ all″ cs long starts calls =
+      let whole = eq-eqb (length image) size long in
+      let sane = within-bounds .start image long in
+      let t = startedFrom image in
+      let stands : Stands t counters′ numbers′ paddles′ all′ =
+      rw (starts .counted, starts .numbered, starts .moved, starts .registers, whole)
+      (cleared-stands t sane) in
+      (starts .answered ∙ rw whole, from t counters′ counters″ numbers′ numbers″ paddles′ paddles″ all′ all″ cs sane stands calls)

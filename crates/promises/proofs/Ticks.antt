@@ -6,7 +6,7 @@ use Prim.Native.Nat.{ℕ, zero, suc, _+_, _-_, _%_, _<_, _≤_}
 use native.Mathlib.Omega.{arith}
 use borrow.Author.Tests.{eq-eqb, eqb-false, le-ltb, lt-ltb, ne-eqb}
 use lib.Dec.{eqb}
-use lib.ListN.{getD, length}
+use lib.ListN.{getD, length, replicate}
 use lib.Seq.{getD-set-other, set-set}
 use Rattle.words.proofs.Laws.{both, three-ways, two-ways}
 use Rattle.timers.specs.Timers.{beats, beatsBy, metronome, less, lessBy, metronomeBy}
@@ -23,29 +23,33 @@ use Rattle.vault.specs.declared.Password.{Password}
 use Rattle.dimmer.specs.Dimmer.{ticked, tickedBy}
 use Rattle.dimmer.specs.declared.Dimmer.{Dimmer}
 use Rattle.dimmer.proofs.Laws.{ticked-more, ticked-none}
-use Rattle.lamp.specs.Lamp.{nextLamp}
-use Rattle.lamp.specs.Promises.{lampSkip}
-use Rattle.lamp.specs.declared.Lamp.{Lamp}
-use Rattle.lamp.proofs.Laws.{output-plain, skip-more, skip-none}
 use Rattle.paddle.specs.Paddle.{down, freshPaddle, gesture, nextPaddle}
 use Rattle.paddle.specs.Promises.{raised, paddleSkip, paddleTicks, wait, waitFor}
+use Rattle.paddle.specs.declared.Gesture.{Gesture}
 use Rattle.paddle.specs.declared.Gesture.the-variants.{Nothing}
 use Rattle.paddle.specs.declared.Paddle.{Paddle}
 use Rattle.paddle.proofs.Laws as paddle
 use Rattle.paddle.specs.Code.{completesNothing, due}
+use Rattle.lamp.specs.Lamp.{nextLamp}
+use Rattle.lamp.specs.Promises.{lampSkip}
+use Rattle.lamp.specs.declared.Lamp.{Lamp}
+use Rattle.lamp.proofs.Laws.{output-plain, skip-more, skip-none}
+use Rattle.model.specs.Model.{paddleOf, room, paddleCount}
 use Rattle.registers.specs.Places.{firstPlace, savedPlace, secondPlace}
 use Rattle.registers.specs.Write.{applied, changeAt, changeOf, stored}
 use Rattle.registers.specs.declared.write.Write.{Write}
 use Rattle.registers.specs.declared.write.Write.the-variants.{Save, Nothing as Unwritten}
 use Rattle.acts.specs.Core.{aged, core, saveTicks, saved, toSave}
 use Rattle.acts.specs.declared.Core.{Core}
-use Rattle.switch.specs.Switch.{Event, Plain, Shown, answerOf, answerWith, event, plain, tally, tick}
-use Rattle.switch.specs.Paddles.{after}
-use Rattle.switch.specs.Events.{begun, finished, job, paddleAt, paddleOf, signalledBy, jobOfTick}
-use Rattle.switch.specs.Code.{quiet}
+use Rattle.post.specs.Post.{tally}
+use Rattle.state.specs.Paddles.{paddleAt}
+use Rattle.turns.specs.Turns.{after}
+use Rattle.switch.specs.Switch.{Event, Plain, Shown, answerOf, answerWith, event, plain, tick}
+use Rattle.switch.specs.Events.{begun, finished, job, signalledBy, jobOfTick}
 use Rattle.switch.specs.Respond.{respond, wallSwitch}
-use Rattle.switch.proofs.Quick.{plainly, turns-quiet}
-use Rattle.promises.specs.Ticking.{AtRest, ByItself, LeftToItself, RestIsSilent, RoomToSpare, Shows, Silent, Steady, TicksAtOnce, coreBy, dimmerIn, modeIn, nextTick, nthTick, registersBy, runOf, ticksOf, with48}
+use Rattle.switch.proofs.Quick.{turns-quiet}
+use Rattle.switch.specs.Code.{told}
+use Rattle.promises.specs.Ticking.{AtRest, ByItself, LeftToItself, RestIsSilent, RoomToSpare, Shows, Silent, Steady, TicksAtOnce, coreBy, dimmerIn, modeIn, nextTick, nthTick, registersBy, runOf, ticksOf, withRoom}
 use Rattle.promises.proofs.Jobs.{tick-job}
 
 -- ---- runs of ticks
@@ -62,6 +66,10 @@ unfolding paddleTicks
 ticks-shift zero p = refl
 ticks-shift (suc n) p = ap nextPaddle (ticks-shift n p)
 
+pub all-shift : (n : ℕ) (ps : List Paddle) → map (paddleTicks n) (map nextPaddle ps) ≡ map (paddleTicks (suc n)) ps
+all-shift n [] = refl
+all-shift n (p ∷ ps) = ap₂ (λ (q : Paddle) (qs : List Paddle). q ∷ qs) (ticks-shift n p) (all-shift n ps)
+
 -- Two runs, one after the other.
 pub run-joined : (s : Switch Plain) (es fs : List Event) → runOf s (es ++ fs) ≡ runOf (runOf s es) fs
 unfolding run
@@ -69,10 +77,10 @@ run-joined s [] fs = refl
 run-joined s (e ∷ es) fs = run-joined (respond s e .next) es fs
 
 -- One tick more at the end.
-pub run-more : (n : ℕ) (s : Switch Plain) → runOf s (ticksOf (suc n)) ≡ respond (runOf s (ticksOf n)) (with48 tick) .next
+pub run-more : (n : ℕ) (s : Switch Plain) → runOf s (ticksOf (suc n)) ≡ respond (runOf s (ticksOf n)) (withRoom tick) .next
 unfolding run ticksOf
 run-more zero s = refl
-run-more (suc n) s = run-more n (respond s (with48 tick) .next)
+run-more (suc n) s = run-more n (respond s (withRoom tick) .next)
 
 -- What holds throughout two runs, one after the other, holds throughout both.
 pub throughout-joined : (C : Switch Plain → Event → Type 0) (s : Switch Plain) (es fs : List Event)
@@ -92,7 +100,7 @@ pub ticks-shown : {A : Type 0} (see : Shown → A) (f : ℕ → A) (n : ℕ) (s 
 unfolding run ticksOf transcript tabulated
 ticks-shown see f zero s each = refl
 ticks-shown see f (suc n) s each =
-    ap₂ (λ x l. x ∷ l) (each 0 (omega arith)) (ticks-shown see (λ k. f (suc k)) n (respond s (with48 tick) .next) (λ k h. each (suc k) (omega arith)))
+    ap₂ (λ x l. x ∷ l) (each 0 (omega arith)) (ticks-shown see (λ k. f (suc k)) n (respond s (withRoom tick) .next) (λ k h. each (suc k) (omega arith)))
 
 -- ---- one tick in which no paddle completes a gesture
 
@@ -108,14 +116,18 @@ pub save-keeps : (c : Core) → changeOf (toSave c) [] ≡ nothing
 unfolding toSave changeOf changeAt
 save-keeps c = both (λ (w : Write). change (changeAt w [] firstPlace) (changeAt w [] secondPlace) ≡ nothing) (beats (c .save)) {x = Save (percentOf (c .dimmer .level))} {y = Unwritten} refl refl
 
-pub quiet-tick : (s : Switch Plain) (room : ℕ) → 48 ≤ room → quiet (s .plain .paddles) ≡ true
-    → respond s (event room tick) ≡ plainly (tickedPlain (s .plain)) (s .password)
+-- No paddle of the list completes a gesture.
+abbrev pub Still : List Paddle → Type 0
+Still ps = map gesture ps ≡ replicate (length ps) Nothing
+
+pub quiet-tick : (s : Switch Plain) (lent : ℕ) → room ≤ lent → Still (s .plain .paddles)
+    → respond s (event lent tick) ≡ told 0 [] (tickedPlain (s .plain)) (s .password)
 unfolding Product.responseOf settled jobOfTick after followed over finished signalledBy saved aged changed became
-quiet-tick s room enough still =
-    rw (tick-job (s .plain) room enough, turns-quiet (s .plain .paddles) 0 (begun (s .plain) (aged (s .plain .core))) still, save-keeps (aged (s .plain .core)))
+quiet-tick s lent enough still =
+    rw (tick-job (s .plain) lent enough, turns-quiet (s .plain .paddles) (length (s .plain .paddles)) 0 (begun (s .plain) (aged (s .plain .core))) still, save-keeps (aged (s .plain .core)))
 
 -- What such an event shows.
-pub plainly-shows : (s : Switch Plain) (e : Event) (p : Plain) (w : Password) → respond s e ≡ plainly p w → p .core .lamp .flash ≡ 0
+pub plainly-shows : (s : Switch Plain) (e : Event) (p : Plain) (w : Password) → respond s e ≡ told 0 [] p w → p .core .lamp .flash ≡ 0
     → Shows (p .core .mode) (p .core .dimmer .level) [] (respond s e .shown)
 unfolding answerOf answerWith
 plainly-shows s e p w same steady = record {
@@ -143,12 +155,12 @@ registersAfter (suc n) p = applied (toSave (aged (coreBy n (p .core)))) [] (regi
 abbrev pub plainTicked : ℕ → Plain → Plain
 plainTicked n p = plain (registersAfter n p) (coreBy n (p .core)) (map (paddleTicks n) (p .paddles))
 
-no-ticks : (ps : List Paddle) → map (paddleTicks 0) ps ≡ ps
+pub no-ticks : (ps : List Paddle) → map (paddleTicks 0) ps ≡ ps
 unfolding paddleTicks
 no-ticks [] = refl
 no-ticks (p ∷ ps) = ap (λ (l : List Paddle). p ∷ l) (no-ticks ps)
 
-one-more : (n : ℕ) (ps : List Paddle) → map nextPaddle (map (paddleTicks n) ps) ≡ map (paddleTicks (suc n)) ps
+pub one-more : (n : ℕ) (ps : List Paddle) → map nextPaddle (map (paddleTicks n) ps) ≡ map (paddleTicks (suc n)) ps
 unfolding paddleTicks
 one-more n [] = refl
 one-more n (p ∷ ps) = ap (λ (l : List Paddle). nextPaddle (paddleTicks n p) ∷ l) (one-more n ps)
@@ -168,7 +180,7 @@ after-more n p =
 
 -- No paddle of the list completes a gesture in the next n ticks.
 abbrev pub Quiet : ℕ → List Paddle → Type 0
-Quiet n ps = (k : ℕ) → k < n → quiet (map (paddleTicks k) ps) ≡ true
+Quiet n ps = (k : ℕ) → k < n → Still (map (paddleTicks k) ps)
 
 pub after-ticks : (n : ℕ) (s : Switch Plain) → Quiet n (s .plain .paddles) → runOf s (ticksOf n) ≡ switch (plainTicked n (s .plain)) (s .password)
 unfolding run ticksOf
@@ -176,17 +188,17 @@ after-ticks zero s still = ap (λ (p : Plain). switch p (s .password)) (sym (aft
 after-ticks (suc n) s still =
     let later : Switch Plain = switch (plainTicked n (s .plain)) (s .password) in
     run-more n s
-    ∙ ap (λ (t : Switch Plain). respond t (with48 tick) .next) (after-ticks n s (λ k h. still k (omega arith)))
-    ∙ ap (λ a. a .next) (quiet-tick later 48 (omega arith) (still n (omega arith)))
+    ∙ ap (λ (t : Switch Plain). respond t (withRoom tick) .next) (after-ticks n s (λ k h. still k (omega arith)))
+    ∙ ap (λ a. a .next) (quiet-tick later room (omega arith) (still n (omega arith)))
     ∙ ap (λ (p : Plain). switch p (s .password)) (after-more n (s .plain))
 
 -- The tick after n ticks.
 pub tick-after : (n : ℕ) (s : Switch Plain) → Quiet (suc n) (s .plain .paddles)
-    → respond (runOf s (ticksOf n)) (with48 tick) ≡ plainly (plainTicked (suc n) (s .plain)) (s .password)
+    → respond (runOf s (ticksOf n)) (withRoom tick) ≡ told 0 [] (plainTicked (suc n) (s .plain)) (s .password)
 tick-after n s still =
-    ap (λ (t : Switch Plain). respond t (with48 tick)) (after-ticks n s (λ k h. still k (omega arith)))
-    ∙ quiet-tick (switch (plainTicked n (s .plain)) (s .password)) 48 (omega arith) (still n (omega arith))
-    ∙ ap (λ (p : Plain). plainly p (s .password)) (after-more n (s .plain))
+    ap (λ (t : Switch Plain). respond t (withRoom tick)) (after-ticks n s (λ k h. still k (omega arith)))
+    ∙ quiet-tick (switch (plainTicked n (s .plain)) (s .password)) room (omega arith) (still n (omega arith))
+    ∙ ap (λ (p : Plain). told 0 [] p (s .password)) (after-more n (s .plain))
 
 -- The registers differ from those before in the saved level alone.
 abbrev pub Agrees : List ℕ → List ℕ → Type 0
@@ -264,17 +276,19 @@ registers-by (suc n) p = ap (λ (all : List ℕ). applied (toSave (aged (coreBy 
 
 -- ---- a switch that is left to itself
 
-quiet-each : (k : ℕ) (ps : List Paddle) → ((i : ℕ) → i < length ps → gesture (paddleTicks k (getD ps i freshPaddle)) ≡ Nothing) → quiet (map (paddleTicks k) ps) ≡ true
-unfolding quiet completesNothing
+quiet-each : (k : ℕ) (ps : List Paddle) → ((i : ℕ) → i < length ps → gesture (paddleTicks k (getD ps i freshPaddle)) ≡ Nothing) → Still (map (paddleTicks k) ps)
 quiet-each k [] each = refl
-quiet-each k (p ∷ ps) each = rw (each 0 (omega arith)) (quiet-each k ps (λ i h. each (suc i) (omega arith)))
+quiet-each k (p ∷ ps) each = ap₂ (λ (g : Gesture) (gs : List Gesture). g ∷ gs) (each 0 (omega arith)) (quiet-each k ps (λ i h. each (suc i) (omega arith)))
 
-pub silent-quiet : (n : ℕ) (s : Switch Plain) → length (s .plain .paddles) ≡ 2 → Silent n s → Quiet n (s .plain .paddles)
+-- A paddle's number is one of its contacts.
+pub own-contact : (i : ℕ) → i < paddleCount → paddleOf i ≡ i
 unfolding paddleOf
-silent-quiet n s two silent k h = quiet-each k (s .plain .paddles) (λ i under. at i (omega arith))
-  where
-    at : (i : ℕ) → i < 2 → gesture (paddleTicks k (getD (s .plain .paddles) i freshPaddle)) ≡ Nothing
-    at i under = let e : i % 2 ≡ i = omega arith in ap (λ (j : ℕ). gesture (paddleTicks k (getD (s .plain .paddles) j freshPaddle))) (sym e) ∙ silent i k h
+own-contact i h = omega arith
+
+pub silent-quiet : (n : ℕ) (s : Switch Plain) → length (s .plain .paddles) ≡ paddleCount → Silent n s → Quiet n (s .plain .paddles)
+silent-quiet n s count silent k h =
+    quiet-each k (s .plain .paddles)
+    (λ i under. ap (λ (j : ℕ). gesture (paddleTicks k (getD (s .plain .paddles) j freshPaddle))) (sym (own-contact i (omega arith))) ∙ silent i k h)
 
 -- The tick after n ticks is the one of number n + 1.
 pub nth : (C : Shown → Type 0) (n : ℕ) (s : Switch Plain) → C (nextTick (runOf s (ticksOf n))) → C (nthTick s (suc n))
@@ -286,8 +300,8 @@ by-one-and-all n [] = refl
 by-one-and-all n (p ∷ ps) = ap₂ (λ (q : Paddle) (qs : List Paddle). q ∷ qs) (sym (paddle.skip-ticks n p)) (by-one-and-all n ps)
 
 ticks-at-once : TicksAtOnce
-ticks-at-once s n two silent =
-    after-ticks n s (silent-quiet n s two silent)
+ticks-at-once s n count silent =
+    after-ticks n s (silent-quiet n s count silent)
     ∙ ap₂ (λ (all : List ℕ) (ps : List Paddle). switch (plain all (coreBy n (s .plain .core)) ps) (s .password)) (registers-by n (s .plain)) (by-one-and-all n (s .plain .paddles))
 
 -- A flash that is over stays over.
@@ -299,11 +313,14 @@ no-flash : (n : ℕ) (l : Lamp) → l .flash ≡ 0 → lampSkip n l .flash ≡ 0
 unfolding lampSkip lessBy
 no-flash n l over = omega arith
 
-pub left-to-itself : LeftToItself
-left-to-itself s zero two steady silent some = absurd (omega arith)
-left-to-itself s (suc n) two steady silent some =
+pub left-quiet : (s : Switch Plain) (n : ℕ) → Quiet n (s .plain .paddles) → Steady s → 1 ≤ n → Shows (modeIn s) (tickedBy n (dimmerIn s) .level) [] (nthTick s n)
+left-quiet s zero still steady some = absurd (omega arith)
+left-quiet s (suc n) still steady some =
     nth (Shows (modeIn s) (tickedBy (suc n) (dimmerIn s) .level) []) n s
-    (plainly-shows (runOf s (ticksOf n)) (with48 tick) (plainTicked (suc n) (s .plain)) (s .password) (tick-after n s (silent-quiet (suc n) s two silent)) (no-flash (suc n) (s .plain .core .lamp) steady))
+    (plainly-shows (runOf s (ticksOf n)) (withRoom tick) (plainTicked (suc n) (s .plain)) (s .password) (tick-after n s still) (no-flash (suc n) (s .plain .core .lamp) steady))
+
+pub left-to-itself : LeftToItself
+left-to-itself s n count steady silent some = left-quiet s n (silent-quiet n s count silent) steady some
 
 -- A paddle that is up with no tap counted.
 pub untapped : (k hold gap : ℕ) → gesture (paddleTicks k (raised hold gap 0)) ≡ Nothing
@@ -317,7 +334,7 @@ up-untapped p up completesNothing = paddle.up-raised p up ∙ ap (λ (taps : ℕ
 pub rest-as : (s t : Switch Plain) → t .plain .paddles ≡ s .plain .paddles → Steady t → AtRest s → AtRest t
 rest-as s t same steady rest = record {
   steady = steady;
-  two = ap length same ∙ rest .two;
+  count = ap length same ∙ rest .count;
   up = λ contact. ap (λ (ps : List Paddle). down (paddleAt contact ps)) same ∙ rest .up contact;
   untapped = λ contact. ap (λ (ps : List Paddle). paddleAt contact ps .taps) same ∙ rest .untapped contact;
 }
@@ -328,7 +345,7 @@ rest-is-silent s n rest contact k h =
 
 room-to-spare : RoomToSpare
 unfolding Product.responseOf job
-room-to-spare s room d enough = rw (le-ltb room 48 enough)
+room-to-spare s lent d enough = rw (le-ltb lent room enough)
 
 -- All of it.
 pub by-itself : ByItself

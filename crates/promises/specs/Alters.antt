@@ -10,15 +10,16 @@ use Rattle.words.specs.Words.{if_then_else_}
 use Rattle.units.specs.Units.{percentOf}
 use Rattle.units.specs.declared.Percent.{Percent}
 use Rattle.units.specs.declared.Step.{Step}
+use Rattle.packet.specs.Reading.{messageOf, readOf}
+use Rattle.packet.specs.declared.Frame.{Frame}
+use Rattle.packet.specs.declared.Frame.the-variants as frame
 use Rattle.vault.specs.Job.{Switch}
 use Rattle.vault.specs.Vault.{matches}
 use Rattle.vault.specs.declared.Mode.{Mode}
 use Rattle.vault.specs.declared.Mode.the-variants.{Setup}
-use Rattle.packet.specs.Reading.{messageOf, readOf}
-use Rattle.packet.specs.declared.Frame.{Frame}
-use Rattle.packet.specs.declared.Frame.the-variants as frame
 use Rattle.paddle.specs.Paddle.{gesture}
 use Rattle.paddle.specs.declared.Paddle.{Paddle}
+use Rattle.model.specs.Model.{room}
 use Rattle.registers.specs.Places.{levelPlace, secret, size}
 use Rattle.registers.specs.Write.{byteAfter, factoryAt, sets}
 use Rattle.registers.specs.declared.places.Counter.the-variants.{Restarts, Setups}
@@ -90,7 +91,7 @@ byDeed s level restart = bare (Count Restarts) ∷ []
 
 -- All that an event writes, in order; without room for an answer it writes nothing.
 unfoldable pub writesOf : Switch Plain → Event → List Writing
-writesOf s e = if ltb (e .room) 48 then [] else byDeed s (respond s e .next .plain .core .dimmer .level) (e .deed)
+writesOf s e = if ltb (e .room) room then [] else byDeed s (respond s e .next .plain .core .dimmer .level) (e .deed)
 
 -- The byte of a place after writes, one after the other.
 unfoldable pub bytesAfter : List Writing → ℕ → ℕ → ℕ

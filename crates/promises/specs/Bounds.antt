@@ -1,4 +1,4 @@
--- What no event can leave: levels within 0 to 200, two paddles, 256 registers, and at most two packets of 7 to 24 bytes.
+-- What no event can leave: levels within 0 to 200, all its paddles, 256 registers, and at most a packet for each paddle, of a size that fits.
 use mathlib.Core.List.{List}
 use mathlib.Core.Path.{_≡_}
 use Prim.Native.Nat.{ℕ, _≤_}
@@ -8,23 +8,25 @@ use Rattle.vault.specs.Job.{Switch}
 use Rattle.vault.specs.Machine.{Throughout, run}
 use Rattle.vault.specs.Product.{machine}
 use Rattle.dimmer.specs.Dimmer.{Within}
+use Rattle.model.specs.Model.{paddleCount, place}
 use Rattle.registers.specs.Places.{size}
 use Rattle.registers.specs.Registers.{Dead}
+use Rattle.post.specs.Post.{tally}
 use Rattle.post.specs.Promises.{Each}
-use Rattle.switch.specs.Switch.{Event, Plain, Shown, tally}
+use Rattle.switch.specs.Switch.{Event, Plain, Shown}
 use Rattle.switch.specs.Respond.{respond, startedFrom, wallSwitch}
 
 -- What holds of every switch that was started, whatever its password: 256 registers with the password apart, level, Last On Level and
--- a fade's target within 0 to 200, and two paddles.
+-- a fade's target within 0 to 200, and all its paddles.
 pub record Sane (p : Plain) : Type 0 where
   pub registers : length (p .registers) ≡ size
   pub dead : Dead (p .registers)
   pub dimmer : Within (p .core .dimmer)
-  pub paddles : length (p .paddles) ≡ 2
+  pub paddles : length (p .paddles) ≡ paddleCount
 
--- A packet of 7 to 24 bytes.
+-- A packet of at least 7 bytes that fits its place.
 abbrev pub OfSize : List ℕ → Type 0
-OfSize packet = (7 ≤ length packet) × (length packet ≤ 24)
+OfSize packet = (7 ≤ length packet) × (length packet ≤ place)
 
 -- 01, Levels and fades, 1 and 01, Events and time, 7: what an event shows, and the switch after it.
 pub record Bounds (x : Shown) (s : Switch Plain) : Type 0 where
@@ -32,7 +34,7 @@ pub record Bounds (x : Shown) (s : Switch Plain) : Type 0 where
   pub output : x .answer .output .0 ≤ 200
   pub last : s .plain .core .dimmer .last .0 ≤ 200
   pub percent : percentOf (x .answer .level) .0 ≤ 100
-  pub packets : length (x .sent) ≤ 2
+  pub packets : length (x .sent) ≤ paddleCount
   pub sizes : Each OfSize (x .sent)
   pub tallied : x .answer .sent ≡ tally (x .sent)
 

@@ -2,7 +2,7 @@
 use mathlib.Core.Bool.{true}
 use mathlib.Core.List.{List, [], _∷_, _++_}
 use mathlib.Core.Path.{_≡_}
-use Prim.Native.Nat.{ℕ, zero, suc, _%_, _≤_}
+use Prim.Native.Nat.{ℕ, zero, suc, _%_, _≤_, _<_}
 use lib.ListN.{getD, length, set}
 use Rattle.units.specs.Units.{full, off, step}
 use Rattle.vault.specs.Job.{Switch}
@@ -10,8 +10,9 @@ use Rattle.vault.specs.Vault.{password}
 use Rattle.vault.specs.declared.Mode.the-variants.{Normal, Setup}
 use Rattle.dimmer.specs.Dimmer.{optionsOf}
 use Rattle.dimmer.specs.declared.Motion.the-variants.{Idle}
-use Rattle.lamp.specs.declared.Colour.the-variants.{Green, Red}
 use Rattle.paddle.specs.declared.Gesture.the-variants.{Taps}
+use Rattle.lamp.specs.declared.Colour.the-variants.{Green, Red}
+use Rattle.model.specs.Model.{room, contactCount}
 use Rattle.registers.specs.Places.{dimmingIn, networkIn, size, unitIn}
 use Rattle.registers.specs.Registers.{found}
 use Rattle.registers.specs.declared.Found.the-variants.{At}
@@ -87,38 +88,38 @@ pub record Cases : Type 0 where
   -- Every start leaves a switch at rest, with nothing running.
   pub rests : (image : List ℕ) → AtRest (startedFrom image) × (dimmerIn (startedFrom image) .motion ≡ Idle)
   -- (a): Report Status is answered 0 and by a status of 40 percent.
-  pub a : (s : Switch Plain) (room : ℕ) → 48 ≤ room → Bench s
-      → (numberAt s (event room (receive packetA)) ≡ 0) × (respond s (event room (receive packetA)) .shown .sent ≡ replyA ∷ [])
+  pub a : (s : Switch Plain) (lent : ℕ) → room ≤ lent → Bench s
+      → (numberAt s (event lent (receive packetA)) ≡ 0) × (respond s (event lent (receive packetA)) .shown .sent ≡ replyA ∷ [])
   -- (b): Goto 50 percent at rate 0, on link 3, is there at once, and nothing runs.
-  pub b : (s : Switch Plain) (room i : ℕ) → 48 ≤ room → Bench s → found (s .plain .registers) 3 ≡ At i
-      → (numberAt s (event room (receive packetB)) ≡ 0)
-      × ((respond s (event room (receive packetB)) .shown .answer .level ≡ step 100)
-      × (respond s (event room (receive packetB)) .next .plain .core .dimmer .motion ≡ Idle))
+  pub b : (s : Switch Plain) (lent i : ℕ) → room ≤ lent → Bench s → found (s .plain .registers) 3 ≡ At i
+      → (numberAt s (event lent (receive packetB)) ≡ 0)
+      × ((respond s (event lent (receive packetB)) .shown .answer .level ≡ step 100)
+      × (respond s (event lent (receive packetB)) .next .plain .core .dimmer .motion ≡ Idle))
   -- (c): Start Setup with the right password leads into Setup.
-  pub c : (s : Switch Plain) (room : ℕ) → 48 ≤ room → Bench s → s .password ≡ password 0x12 0x34
-      → (numberAt s (event room (receive packetC)) ≡ 0) × (respond s (event room (receive packetC)) .shown .answer .mode ≡ Setup)
+  pub c : (s : Switch Plain) (lent : ℕ) → room ≤ lent → Bench s → s .password ≡ password 0x12 0x34
+      → (numberAt s (event lent (receive packetC)) ≡ 0) × (respond s (event lent (receive packetC)) .shown .answer .mode ≡ Setup)
   -- (d): where the switch has another password, it is 14.
-  pub d : (s : Switch Plain) (room : ℕ) → 48 ≤ room → Bench s → (s .password ≡ password 0x12 0x34 → ⊥)
-      → numberAt s (event room (receive packetC)) ≡ 14
+  pub d : (s : Switch Plain) (lent : ℕ) → room ≤ lent → Bench s → (s .password ≡ password 0x12 0x34 → ⊥)
+      → numberAt s (event lent (receive packetC)) ≡ 14
   -- (e): packet (a) with another last byte is 7, in every switch.
-  pub e : (s : Switch Plain) (room : ℕ) → 48 ≤ room → numberAt s (event room (receive packetE)) ≡ 7
-  -- (f): a press of 59 ticks is nothing, one of 60 or of 179 is a tap, one of 180 is Hold; by any of the four contacts of a switch at rest with
+  pub e : (s : Switch Plain) (lent : ℕ) → room ≤ lent → numberAt s (event lent (receive packetE)) ≡ 7
+  -- (f): a press of 59 ticks is nothing, one of 60 or of 179 is a tap, one of 180 is Hold; by any contact of a switch at rest with
   -- no fade or blink running, in every mode.
-  pub f-nothing : (s : Switch Plain) (contact : ℕ) → contact ≤ 3 → AtRest s → dimmerIn s .motion ≡ Idle → IsNothing 59 contact s
-  pub f-shortest : (s : Switch Plain) (contact : ℕ) → contact ≤ 3 → AtRest s → dimmerIn s .motion ≡ Idle → IsTaps 1 contact s (pressOf 60 contact)
-  pub f-longest : (s : Switch Plain) (contact : ℕ) → contact ≤ 3 → AtRest s → dimmerIn s .motion ≡ Idle → IsTaps 1 contact s (pressOf 179 contact)
-  pub f-hold : (s : Switch Plain) (contact : ℕ) → contact ≤ 3 → AtRest s → dimmerIn s .motion ≡ Idle → IsHold contact s
+  pub f-nothing : (s : Switch Plain) (contact : ℕ) → contact < contactCount → AtRest s → dimmerIn s .motion ≡ Idle → IsNothing 59 contact s
+  pub f-shortest : (s : Switch Plain) (contact : ℕ) → contact < contactCount → AtRest s → dimmerIn s .motion ≡ Idle → IsTaps 1 contact s (pressOf 60 contact)
+  pub f-longest : (s : Switch Plain) (contact : ℕ) → contact < contactCount → AtRest s → dimmerIn s .motion ≡ Idle → IsTaps 1 contact s (pressOf 179 contact)
+  pub f-hold : (s : Switch Plain) (contact : ℕ) → contact < contactCount → AtRest s → dimmerIn s .motion ≡ Idle → IsHold contact s
   -- Nothing and a tap can be told apart: one tap of the top paddle puts the bench's switch from step 80 to 0.
   pub f-there : dimmerBy (Taps 1) 0 (startedFrom benchImage) .level ≡ off
   -- (g): a press 179 ticks after a tap was counted still counts with it. Of the same switch, in Normal.
-  pub g : (s : Switch Plain) (contact : ℕ) → contact ≤ 3 → AtRest s → dimmerIn s .motion ≡ Idle → modeIn s ≡ Normal
+  pub g : (s : Switch Plain) (contact : ℕ) → contact < contactCount → AtRest s → dimmerIn s .motion ≡ Idle → modeIn s ≡ Normal
       → IsTaps 2 contact s (pressOf 60 contact ++ (ticksOf 179 ++ pressOf 60 contact))
   -- (h): from 0 to 50 percent at rate 4 a fade takes 600 ticks, 6 for each step; from 0 to 100 at rate 15 it takes 864,000, 4,320 for each step;
   -- by whichever packet the Goto comes. There are such a switch and such packets.
-  pub h-half : (s : Switch Plain) (room : ℕ) (bytes : List ℕ) → 48 ≤ room → Dark s → Asks s bytes (driving (drive.Goto 50 4))
-      → Fades s (event room (receive bytes)) 6 600 (step 100)
-  pub h-full : (s : Switch Plain) (room : ℕ) (bytes : List ℕ) → 48 ≤ room → Dark s → Asks s bytes (driving (drive.Goto 100 15))
-      → Fades s (event room (receive bytes)) 4320 864000 full
+  pub h-half : (s : Switch Plain) (lent : ℕ) (bytes : List ℕ) → room ≤ lent → Dark s → Asks s bytes (driving (drive.Goto 50 4))
+      → Fades s (event lent (receive bytes)) 6 600 (step 100)
+  pub h-full : (s : Switch Plain) (lent : ℕ) (bytes : List ℕ) → room ≤ lent → Dark s → Asks s bytes (driving (drive.Goto 100 15))
+      → Fades s (event lent (receive bytes)) 4320 864000 full
   pub h-there : Dark (startedFrom darkImage) × (Asks (startedFrom darkImage) packetHalf (driving (drive.Goto 50 4)) × Asks (startedFrom darkImage) packetFull (driving (drive.Goto 100 15)))
   -- (i): where the low four bits of register 0x0B are 2, the answer of the start and those of the 479 ticks after it show red, red, green and
   -- red, each for 60 and then black for 60.

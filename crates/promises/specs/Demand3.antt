@@ -64,8 +64,8 @@ seenOf s ls = transcript (machine wallSwitch) s (events ls)
 abbrev pub afterAll : Switch Plain → List Lent → Switch Plain
 afterAll s ls = run (machine wallSwitch) s (events ls)
 
--- No event of the list leaves the switch in Setup. One tick can open Setup and leave it again, where the top paddle closes five taps and
--- the bottom one two or ten: Setup then shows in neither answer, and that tick counts as any other.
+-- No event of the list leaves the switch in Setup. One tick can open Setup and leave it again, where a paddle closes five taps and a
+-- later one two or ten: Setup then shows in neither answer, and that tick counts as any other.
 abbrev pub NeverOpens : Switch Plain → List Lent → Type 0
 NeverOpens s ls = StaysOut (alone wallSwitch) s (events ls)
 

@@ -8,10 +8,11 @@ use Rattle.vault.specs.declared.Mode.{Mode}
 use Rattle.paddle.specs.Paddle.{freshPaddle, gesture}
 use Rattle.paddle.specs.declared.Gesture.the-variants.{Taps}
 use Rattle.paddle.specs.declared.Paddle.{Paddle}
+use Rattle.model.specs.Model.{room}
 use Rattle.acts.specs.Core.{aged}
 use Rattle.acts.specs.Gestures.{leads}
+use Rattle.turns.specs.Turns.{turns}
 use Rattle.switch.specs.Switch.{Plain, event, tick}
-use Rattle.switch.specs.Paddles.{turns}
 use Rattle.switch.specs.Events.{begun}
 use Rattle.switch.specs.Respond.{respond}
 
@@ -28,7 +29,7 @@ modeAt s i = modeFor (s .plain .core .mode) (s .plain .paddles) i
 -- `modeAt` is the mode in which the tick stands when the first i paddles have had their turn, and the mode after the tick when all have.
 pub record FindsModes : Type 0 where
   pub found : (s : Switch Plain) (i : ℕ) → turns 0 (take i (s .plain .paddles)) (begun (s .plain) (aged (s .plain .core))) .core .mode ≡ modeAt s i
-  pub left : (s : Switch Plain) (room : ℕ) → 48 ≤ room → respond s (event room tick) .next .plain .core .mode ≡ modeAt s (length (s .plain .paddles))
+  pub left : (s : Switch Plain) (lent : ℕ) → room ≤ lent → respond s (event lent tick) .next .plain .core .mode ≡ modeAt s (length (s .plain .paddles))
 
 -- At a tick, paddle i closes a run of so many taps, and finds this mode.
 pub record Closes (s : Switch Plain) (i : ℕ) (mode : Mode) (count : ℕ) : Type 0 where

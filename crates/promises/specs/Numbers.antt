@@ -7,22 +7,23 @@ use Prim.Native.Nat.{ℕ, _≤_, _<_}
 use lib.Dec.{leb}
 use lib.ListN.{length}
 use Rattle.words.specs.Words.{if_then_else_}
-use Rattle.vault.specs.Job.{Switch, switch}
-use Rattle.lamp.specs.declared.Colour.the-variants.{Black}
 use Rattle.packet.specs.Promises.{ReadRow, Sound}
 use Rattle.packet.specs.Reading.{messageOf}
 use Rattle.packet.specs.declared.Header.{Header}
+use Rattle.vault.specs.Job.{Switch, switch}
+use Rattle.vault.specs.declared.Password.{Password}
 use Rattle.paddle.specs.Promises.{touched}
+use Rattle.lamp.specs.declared.Colour.the-variants.{Black}
+use Rattle.model.specs.Model.{kindOf, room, contactCount}
+use Rattle.registers.specs.Places.{size}
 use Rattle.judge.specs.Promises.{Accepted, Refusal}
 use Rattle.judge.specs.declared.Order.{Order}
 use Rattle.judge.specs.declared.Order.the-variants as order
-use Rattle.vault.specs.declared.Password.{Password}
-use Rattle.post.specs.Post.{placed}
-use Rattle.registers.specs.Places.{size}
-use Rattle.switch.specs.Switch.{Deed, Event, Plain, answerOf, event, plain, press, receive, release, restart, tick}
-use Rattle.switch.specs.Events.{kindOf, paddleAt}
-use Rattle.switch.specs.Respond.{respond, startAnswer}
 use Rattle.acts.specs.Core.{signalled}
+use Rattle.post.specs.Post.{placed}
+use Rattle.state.specs.Paddles.{paddleAt}
+use Rattle.switch.specs.Switch.{Deed, Event, Plain, answerOf, event, plain, press, receive, release, restart, tick}
+use Rattle.switch.specs.Respond.{respond, startAnswer}
 
 -- The number that a switch answers to an event.
 abbrev pub numberAt : Switch Plain → Event → ℕ
@@ -47,17 +48,17 @@ pub data PacketRefused (s : Switch Plain) (bytes : List ℕ) : ℕ → Type 0 wh
 
 -- 01, Answer numbers, row 3, and the rows of a packet; ticks and restarts have no row of their own.
 abbrev pub DeedRefused : Switch Plain → Deed → ℕ → Type 0
-DeedRefused s (press contact) n = (n ≡ 3) × (3 < contact)
-DeedRefused s (release contact) n = (n ≡ 3) × (3 < contact)
+DeedRefused s (press contact) n = (n ≡ 3) × (contactCount ≤ contact)
+DeedRefused s (release contact) n = (n ≡ 3) × (contactCount ≤ contact)
 DeedRefused s tick n = ⊥
 DeedRefused s (receive bytes) n = PacketRefused s bytes n
 DeedRefused s restart n = ⊥
 
 -- The whole table for an event: row 2 comes first (01, Answer numbers, 1), and row 0 is where no other applies.
 pub data Row (s : Switch Plain) (e : Event) : ℕ → Type 0 where
-  no-room : e .room < 48 → Row s e 2
-  refused : (n : ℕ) → 48 ≤ e .room → DeedRefused s (e .deed) n → Row s e n
-  done : 48 ≤ e .room → ((n : ℕ) → DeedRefused s (e .deed) n → ⊥) → Row s e 0
+  no-room : e .room < room → Row s e 2
+  refused : (n : ℕ) → room ≤ e .room → DeedRefused s (e .deed) n → Row s e n
+  done : room ≤ e .room → ((n : ℕ) → DeedRefused s (e .deed) n → ⊥) → Row s e 0
 
 -- 01, Answer numbers, heading of the table: each number if and only if its row holds, for every event.
 abbrev pub Exactly : Type 0
@@ -77,7 +78,7 @@ pub record WrongGuess (s : Switch Plain) (d : Deed) : Type 0 where
 
 -- 14 once more by itself: room enough, a Start Setup that passes all other checks, and a guess that is not the password.
 abbrev pub FourteenExactly : Type 0
-FourteenExactly = (s : Switch Plain) (e : Event) → (numberAt s e ≡ 14) ↔ ((48 ≤ e .room) × WrongGuess s (e .deed))
+FourteenExactly = (s : Switch Plain) (e : Event) → (numberAt s e ≡ 14) ↔ ((room ≤ e .room) × WrongGuess s (e .deed))
 
 -- The numbers that every event can have.
 abbrev pub Or0Or2 : ℕ → Type 0
@@ -85,12 +86,12 @@ Or0Or2 n = (n ≡ 0) ⊎ (n ≡ 2)
 
 -- The numbers that each event can have at all.
 pub record OnlyThese : Type 0 where
-  pub press : (s : Switch Plain) (room contact : ℕ) → Or0Or2 (numberAt s (event room (press contact))) ⊎ (numberAt s (event room (press contact)) ≡ 3)
-  pub release : (s : Switch Plain) (room contact : ℕ) → Or0Or2 (numberAt s (event room (release contact))) ⊎ (numberAt s (event room (release contact)) ≡ 3)
-  pub tick : (s : Switch Plain) (room : ℕ) → Or0Or2 (numberAt s (event room tick))
-  pub receive : (s : Switch Plain) (room : ℕ) (bytes : List ℕ)
-      → Or0Or2 (numberAt s (event room (receive bytes))) ⊎ ((4 ≤ numberAt s (event room (receive bytes))) × (numberAt s (event room (receive bytes)) ≤ 14))
-  pub restart : (s : Switch Plain) (room : ℕ) → Or0Or2 (numberAt s (event room restart))
+  pub press : (s : Switch Plain) (lent contact : ℕ) → Or0Or2 (numberAt s (event lent (press contact))) ⊎ (numberAt s (event lent (press contact)) ≡ 3)
+  pub release : (s : Switch Plain) (lent contact : ℕ) → Or0Or2 (numberAt s (event lent (release contact))) ⊎ (numberAt s (event lent (release contact)) ≡ 3)
+  pub tick : (s : Switch Plain) (lent : ℕ) → Or0Or2 (numberAt s (event lent tick))
+  pub receive : (s : Switch Plain) (lent : ℕ) (bytes : List ℕ)
+      → Or0Or2 (numberAt s (event lent (receive bytes))) ⊎ ((4 ≤ numberAt s (event lent (receive bytes))) × (numberAt s (event lent (receive bytes)) ≤ 14))
+  pub restart : (s : Switch Plain) (lent : ℕ) → Or0Or2 (numberAt s (event lent restart))
 
 -- 01, Answer numbers, rows 0 and 1, of a start.
 pub record StartExactly : Type 0 where
@@ -128,8 +129,8 @@ downAt contact s = touched (kindOf contact) (paddleAt contact (s .plain .paddles
 
 -- 01, Answer numbers, 4: pressing what is down, releasing what is up.
 pub record AlreadySo : Type 0 where
-  pub press : (s : Switch Plain) (room contact : ℕ) → 48 ≤ room → contact ≤ 3 → downAt contact s ≡ true → Idle s (event room (press contact))
-  pub release : (s : Switch Plain) (room contact : ℕ) → 48 ≤ room → contact ≤ 3 → downAt contact s ≡ false → Idle s (event room (release contact))
+  pub press : (s : Switch Plain) (lent contact : ℕ) → room ≤ lent → contact < contactCount → downAt contact s ≡ true → Idle s (event lent (press contact))
+  pub release : (s : Switch Plain) (lent contact : ℕ) → room ≤ lent → contact < contactCount → downAt contact s ≡ false → Idle s (event lent (release contact))
 
 -- All that is promised of the numbers.
 pub record Numbers : Type 0 where

@@ -5,7 +5,7 @@ use mathlib.Core.Logic.{_↔_, _⊎_}
 use mathlib.Core.Path.{_≡_}
 use Prim.Native.Nat.{ℕ, zero, suc, _+_, _≤_, _<_}
 use lib.Dec.{eqb}
-use lib.ListN.{length, getD}
+use lib.ListN.{length}
 use Rattle.words.specs.Words.{if_then_else_}
 use Rattle.units.specs.Units.{percentOf}
 use Rattle.units.specs.declared.Step.{Step}
@@ -13,10 +13,11 @@ use Rattle.vault.specs.Job.{Switch}
 use Rattle.vault.specs.Vault.{inSetup}
 use Rattle.vault.specs.declared.Mode.{Mode}
 use Rattle.vault.specs.declared.Mode.the-variants.{Normal, Setup, Factory}
-use Rattle.paddle.specs.Paddle.{freshPaddle, gesture}
+use Rattle.paddle.specs.Paddle.{gesture}
 use Rattle.paddle.specs.declared.Gesture.{Gesture}
 use Rattle.paddle.specs.declared.Gesture.the-variants as gestures
 use Rattle.paddle.specs.declared.Paddle.{Paddle}
+use Rattle.model.specs.Model.{room}
 use Rattle.registers.specs.Places.{counterPlace, savedPlace, size}
 use Rattle.registers.specs.Write.{byteAfter, oneMore}
 use Rattle.registers.specs.declared.places.Counter.the-variants.{Setups}
@@ -25,8 +26,7 @@ use Rattle.acts.specs.Gestures.{leads}
 use Rattle.switch.specs.Switch.{Event, Plain, event, press, release, tick}
 use Rattle.switch.specs.Respond.{respond, startedFrom}
 use Rattle.promises.specs.Alters.{byteAt}
-use Rattle.promises.specs.Bounds.{Sane}
-use Rattle.promises.specs.Ticking.{pressOf, runOf, ticksOf, with48}
+use Rattle.promises.specs.Ticking.{pressOf, runOf, ticksOf, withRoom}
 use Rattle.promises.specs.Demand3.{Outside}
 use Rattle.promises.specs.Modes.{Closes, modeAt}
 use Rattle.promises.specs.Opening.{Enters}
@@ -77,8 +77,8 @@ tickedByte s level place old =
 -- All 256 registers after any tick, in any mode, with any number of paddles.
 abbrev pub EveryTick : Type 0
 EveryTick =
-    (s : Switch Plain) (room place : ℕ) → 48 ≤ room → length (s .plain .registers) ≡ size → place < size
-    → byteAt (respond s (event room tick) .next) place ≡ tickedByte s (respond s (event room tick) .next .plain .core .dimmer .level) place (byteAt s place)
+    (s : Switch Plain) (lent place : ℕ) → room ≤ lent → length (s .plain .registers) ≡ size → place < size
+    → byteAt (respond s (event lent tick) .next) place ≡ tickedByte s (respond s (event lent tick) .next .plain .core .dimmer .level) place (byteAt s place)
 
 -- The next tick sets the factory values: a paddle closes ten taps in it and finds Setup. Setup may be the mode before the tick, or made within
 -- it; the mode after it may be any.
@@ -112,25 +112,29 @@ pub record PassesUnseen (s : Switch Plain) : Type 0 where
 abbrev pub UnseenExactly : Type 0
 UnseenExactly =
     (s : Switch Plain) (e : Event) → Outside s
-    → (Enters s e × Outside (respond s e .next)) ↔ ((48 ≤ e .room) × ((e .deed ≡ tick) × PassesUnseen s))
+    → (Enters s e × Outside (respond s e .next)) ↔ ((room ≤ e .room) × ((e .deed ≡ tick) × PassesUnseen s))
 
 -- Each of them counts in 0xFA.
 abbrev pub UnseenCounts : Type 0
 UnseenCounts = (s : Switch Plain) → PassesUnseen s → 1 ≤ openings (s .plain .core .mode) (s .plain .paddles)
 
--- With a top and a bottom paddle: five taps of the top, and so many of the bottom that close at the same tick.
-pub record BothClose (s : Switch Plain) (count : ℕ) : Type 0 where
-  pub mode : s .plain .core .mode ≡ Normal
-  pub top : gesture (getD (s .plain .paddles) 0 freshPaddle) ≡ gestures.Taps 5
-  pub bottom : gesture (getD (s .plain .paddles) 1 freshPaddle) ≡ gestures.Taps count
+-- Five taps of one paddle open Setup within the tick, two or ten of a later one leave it, and no five taps after these open it again.
+pub record OpensAndLeaves (s : Switch Plain) : Type 0 where
+  pub before : Outside s
+  pub opener : ℕ
+  pub opens : Closes s opener Normal 5
+  pub leaver : ℕ
+  pub later : opener < leaver
+  pub leaves : Closes s leaver Setup 2 ⊎ Closes s leaver Setup 10
+  pub last : (i : ℕ) → leaver < i → Closes s i Normal 5 → ⊥
 
--- Those ticks are the ones in which five taps of the top meet two or ten of the bottom.
-abbrev pub OfTwoPaddles : Type 0
-OfTwoPaddles = (s : Switch Plain) → Sane (s .plain) → PassesUnseen s ↔ (BothClose s 2 ⊎ BothClose s 10)
+-- Those ticks are the ones that pass Setup unseen, of however many paddles: of two, five taps of the top meet two or ten of the bottom.
+abbrev pub UnseenByTaps : Type 0
+UnseenByTaps = (s : Switch Plain) → PassesUnseen s ↔ OpensAndLeaves s
 
 -- A press of the top paddle with these events in it.
 abbrev pub around : List Event → List Event
-around es = with48 (press 0) ∷ (es ++ with48 (release 0) ∷ [])
+around es = withRoom (press 0) ∷ (es ++ withRoom (release 0) ∷ [])
 
 -- A tap of the top alone.
 abbrev pub tapAlone : List Event
@@ -155,7 +159,7 @@ throughToFactory = withTwo ++ (withTwo ++ (withTwo ++ (withTwo ++ (withTwo ++ ti
 -- The next tick passes Setup unseen and leaves this mode.
 pub record Reaches (s : Switch Plain) (to : Mode) : Type 0 where
   pub passes : PassesUnseen s
-  pub mode : respond s (with48 tick) .next .plain .core .mode ≡ to
+  pub mode : respond s (withRoom tick) .next .plain .core .mode ≡ to
 
 -- Both kinds are reached from every start, by the paddles alone.
 pub record ReachedByTaps : Type 0 where
@@ -170,5 +174,5 @@ pub record Passing : Type 0 where
   pub outside : FactoryFromOutside
   pub unseen : UnseenExactly
   pub counts : UnseenCounts
-  pub two : OfTwoPaddles
+  pub taps : UnseenByTaps
   pub reached : ReachedByTaps

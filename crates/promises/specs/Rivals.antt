@@ -3,76 +3,106 @@ use mathlib.Core.List.{List, []}
 use mathlib.Core.Path.{_≡_}
 use Prim.Native.Nat.{ℕ, zero, suc}
 use lib.ListN.{length}
+use Rattle.vault.specs.Job.{Switch}
 use Rattle.vault.specs.Machine.{run}
 use Rattle.vault.specs.Product.{machine}
-use Rattle.post.specs.Post.{placed}
 use Rattle.registers.specs.Places.{size}
-use Rattle.switch.specs.Switch.{Deed, Event, answerWith, event, held, tally, liveIn}
+use Rattle.post.specs.Post.{placed, tally}
+use Rattle.state.specs.State.{counterCount, numberCount}
+use Rattle.state.specs.Keeping.{keptCounters, keptNumbers}
+use Rattle.state.specs.Paddles.{byteCount, keptPaddles}
+use Rattle.switch.specs.Switch.{Deed, Event, Plain, answerWith, event, switchOf}
 use Rattle.switch.specs.Respond.{Responds, Starts, respond, startedFrom, wallSwitch}
 use Rattle.switch.specs.declared.Answer.{Answer}
-use Rattle.switch.specs.declared.Live.{Live}
+
+-- The four arrays in which a caller keeps a switch.
+pub record Arrays : Type 0 where
+  pub counters : List ℕ
+  pub numbers : List ℕ
+  pub paddles : List ℕ
+  pub registers : List ℕ
+
+-- The switch that they stand for.
+abbrev pub switchIn : Arrays → Switch Plain
+switchIn k = switchOf (k .counters) (k .numbers) (k .paddles) (k .registers)
+
+-- A switch kept in them.
+abbrev pub keptIn : Arrays → Switch Plain → Arrays
+keptIn k s =
+    record {
+      counters = keptCounters (s .plain .core) (k .counters);
+      numbers = keptNumbers (s .plain .core) (s .password) (k .numbers);
+      paddles = keptPaddles (s .plain .paddles) (k .paddles);
+      registers = s .plain .registers;
+    }
 
 -- What an event function hands back.
 pub record Told : Type 0 where
   pub answer : Answer
-  pub live : Live
-  pub registers : List ℕ
+  pub arrays : Arrays
   pub buffer : List ℕ
 
-abbrev pub told : Answer → Live → List ℕ → List ℕ → Told
-told answer live registers buffer = record { answer = answer; live = live; registers = registers; buffer = buffer }
+abbrev pub told : Answer → Arrays → List ℕ → Told
+told answer arrays buffer = record { answer = answer; arrays = arrays; buffer = buffer }
 
 -- A rival is told the event, all that the switch holds and the lent buffer; and how many events came before, which the contract does not know.
 abbrev pub Rival : Type 0
-Rival = ℕ → Deed → Live → List ℕ → List ℕ → Told
+Rival = ℕ → Deed → Arrays → List ℕ → Told
 
--- The switch as it stands after so many events since a start from 256 bytes.
-pub record StoodAt (before : ℕ) (live : Live) (all : List ℕ) : Type 0 where
+-- The switch as it stands after so many events since a start from 256 bytes, in arrays of their lengths.
+pub record StoodAt (before : ℕ) (k : Arrays) : Type 0 where
   pub image : List ℕ
   pub whole : length image ≡ size
   pub events : List Event
   pub count : length events ≡ before
-  pub holds : held live all ≡ run (machine wallSwitch) (startedFrom image) events
+  pub counted : length (k .counters) ≡ counterCount
+  pub numbered : length (k .numbers) ≡ numberCount
+  pub moved : length (k .paddles) ≡ byteCount
+  pub holds : switchIn k ≡ run (machine wallSwitch) (startedFrom image) events
+
+-- What it hands back meets the contract of the event.
+abbrev pub Right : Deed → Arrays → List ℕ → Told → Type 0
+Right deed k out x =
+    Responds deed (k .counters) (k .numbers) (k .paddles) (k .registers) out
+    (x .answer) (x .arrays .counters) (x .arrays .numbers) (x .arrays .paddles) (x .arrays .registers) (x .buffer)
 
 -- A rival meets the contract if it does at every event of every switch that was started.
 abbrev pub Meets : Rival → Type 0
-Meets r = (before : ℕ) (deed : Deed) (live : Live) (all out : List ℕ) → StoodAt before live all
-    → Responds deed live all out (r before deed live all out .answer) (r before deed live all out .live)
-    (r before deed live all out .registers) (r before deed live all out .buffer)
+Meets r = (before : ℕ) (deed : Deed) (k : Arrays) (out : List ℕ) → StoodAt before k → Right deed k out (r before deed k out)
 
 -- The right one.
 abbrev pub honest : Rival
-honest before deed live all out =
-    let a = respond (held live all) (event (length out) deed) in
-    told (a .shown .answer) (liveIn (a .next)) (a .next .plain .registers) (placed (a .shown .sent) out)
+honest before deed k out =
+    let a = respond (switchIn k) (event (length out) deed) in
+    told (a .shown .answer) (keptIn k (a .next)) (placed (a .shown .sent) out)
 
 -- 01, How much each contract says, 3: the first rival refuses all events, by one number, and changes nothing.
 abbrev pub refusing : ℕ → Rival
-refusing number before deed live all out = told (answerWith number (tally []) all (live .core)) live all out
+refusing number before deed k out = told (answerWith number (tally []) (k .registers) (switchIn k .plain .core)) k out
 
 -- 01, How much each contract says, 3: the second always gives one answer, and is honest in all else.
 abbrev pub fixed : Answer → Rival
-fixed answer before deed live all out =
-    let h = honest before deed live all out in
-    told answer (h .live) (h .registers) (h .buffer)
+fixed answer before deed k out =
+    let h = honest before deed k out in
+    told answer (h .arrays) (h .buffer)
 
 -- 01, How much each contract says, 3: the third keeps its state, whatever it answers and sends.
 abbrev pub deaf : Rival → Rival
-deaf other before deed live all out =
-    let o = other before deed live all out in
-    told (o .answer) live all (o .buffer)
+deaf other before deed k out =
+    let o = other before deed k out in
+    told (o .answer) k (o .buffer)
 
 -- 01, How much each contract says, 3: the fourth is honest at its first event; after it the state is kept.
 abbrev pub once : Rival
-once zero deed live all out = honest zero deed live all out
-once (suc before) deed live all out = deaf honest (suc before) deed live all out
+once zero deed k out = honest zero deed k out
+once (suc before) deed k out = deaf honest (suc before) deed k out
 
 -- An answer with another count of packets.
 abbrev pub counting : ℕ → Answer → Answer
 counting count a =
     record {
       number = a .number;
-      sent = record { count = count; first = a .sent .first; second = a .sent .second };
+      sent = record { lengths = a .sent .lengths; count = count };
       level = a .level;
       output = a .output;
       colour = a .colour;
@@ -81,9 +111,9 @@ counting count a =
 
 -- 01, How much each contract says, 3: the fifth makes up the count of packets, and is honest in all else.
 abbrev pub inventing : ℕ → Rival
-inventing count before deed live all out =
-    let h = honest before deed live all out in
-    told (counting count (h .answer)) (h .live) (h .registers) (h .buffer)
+inventing count before deed k out =
+    let h = honest before deed k out in
+    told (counting count (h .answer)) (h .arrays) (h .buffer)
 
 -- 01, How much each contract says, 4: the contract can be met, and none of the five meets it.
 pub record ShutsOut : Type 0 where
@@ -94,11 +124,10 @@ pub record ShutsOut : Type 0 where
   pub once : Meets once → ⊥
   pub inventing : (count : ℕ) → Meets (inventing count) → ⊥
 
--- 01, How much each contract says, 2: two that meet the contract of an event, or of a start, are equal in the answer, in all that the switch
--- holds, in every register and in every byte of the buffer.
+-- 01, How much each contract says, 2: two that meet the contract of an event, or of a start, are equal in the answer, in every counter, number,
+-- paddle's byte and register, and in every byte of the buffer.
 pub record OneOutcome : Type 0 where
-  pub event : (deed : Deed) (live : Live) (all out : List ℕ) (a b : Answer) (live′ live″ : Live) (all′ all″ out′ out″ : List ℕ)
-      → Responds deed live all out a live′ all′ out′ → Responds deed live all out b live″ all″ out″
-      → (a ≡ b) × ((live′ ≡ live″) × ((all′ ≡ all″) × (out′ ≡ out″)))
-  pub start : (image all : List ℕ) (a b : Answer) (live′ live″ : Live) (all′ all″ : List ℕ)
-      → Starts image all a live′ all′ → Starts image all b live″ all″ → (a ≡ b) × ((live′ ≡ live″) × (all′ ≡ all″))
+  pub event : (deed : Deed) (k : Arrays) (out : List ℕ) (x y : Told) → Right deed k out x → Right deed k out y → x ≡ y
+  pub start : (image counters numbers paddles all : List ℕ) (a b : Answer) (c c′ n n′ p p′ r r′ : List ℕ)
+      → Starts (λ x. x) image counters numbers paddles all a c n p r → Starts (λ x. x) image counters numbers paddles all b c′ n′ p′ r′
+      → (a ≡ b) × ((c ≡ c′) × ((n ≡ n′) × ((p ≡ p′) × (r ≡ r′))))

@@ -4,14 +4,14 @@ use Prim.Native.Nat.{ℕ}
 use Rattle.units.specs.declared.Percent.{Percent}
 use Rattle.packet.specs.Promises.{ReadExactly, ReadsBack, ReadsBackLent, WorkedPackets, WritesBack, WritesBackLent, WritesOneWay, WrittenExactly}
 use Rattle.post.specs.Promises.{AnnouncedReads, Announces, Hides, RepliedReads}
-use Rattle.host.specs.Host.{KeepsWhatItRead, MirrorsBack, RefusedStartLeavesAll, SpeaksOneWay, StartForgets}
+use Rattle.host.specs.Host.{KeepsWhatItRead, MirrorsBack, RefusedStartLeavesAll, SpeaksOneWay, StartForgets, inFigures}
 use Rattle.promises.specs.Demand3.{Demand3}
 use Rattle.promises.specs.Bounds.{WithinBounds}
 use Rattle.promises.specs.Numbers.{Numbers}
 use Rattle.promises.specs.Ticking.{ByItself}
 use Rattle.promises.specs.Cases.{Cases}
 use Rattle.promises.specs.Rivals.{OneOutcome, ShutsOut}
-use Rattle.promises.specs.Sequence.{AfterAnyCalls, AfterAnySpoken}
+use Rattle.promises.specs.Sequence.{AfterAnyCalls}
 use Rattle.promises.specs.Modes.{FindsModes}
 use Rattle.promises.specs.Opening.{Opening}
 use Rattle.promises.specs.Alters.{Alters}
@@ -50,8 +50,8 @@ pub record Library : Type 0 where
 -- Demand 2: after any sequence of calls, of the code and of the library, answers, packets and switch are those of the definitions; the
 -- contract fixes every outcome and shuts out the wrong switches; the cases of document 01 hold.
 pub record Demand2 : Type 0 where
-  pub calls : AfterAnyCalls
-  pub spoken : AfterAnySpoken
+  pub calls : AfterAnyCalls (λ a. a)
+  pub spoken : AfterAnyCalls inFigures
   pub outcome : OneOutcome
   pub shuts-out : ShutsOut
   pub bounds : WithinBounds

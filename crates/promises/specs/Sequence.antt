@@ -5,14 +5,11 @@ use Prim.Native.Nat.{ℕ}
 use lib.ListN.{length}
 use Rattle.vault.specs.Job.{Switch}
 use Rattle.registers.specs.Places.{size}
-use Rattle.switch.specs.Switch.{Plain, Shown, answerOf, held}
-use Rattle.switch.specs.Respond.{Responds, Starts, startedFrom}
+use Rattle.switch.specs.Switch.{Plain, Shown, answerOf, switchOf}
+use Rattle.switch.specs.Respond.{Leaves, Starts, respond, startedFrom}
 use Rattle.switch.specs.declared.Answer.{Answer}
-use Rattle.switch.specs.declared.Live.{Live}
-use Rattle.host.specs.Host.{Begins, Speaks}
-use Rattle.host.specs.Mirror.{inFigures, liveFrom}
-use Rattle.host.specs.declared.Figures.{Figures}
-use Rattle.promises.specs.Demand3.{Lent, afterAll, filled, seenOf}
+use Rattle.switch.specs.Code.{told}
+use Rattle.promises.specs.Demand3.{Lent, afterAll, eventOf, filled, seenOf}
 
 -- A call of an event function: the event with the buffer lent to it, the answer, and the buffer after it.
 pub record Call (Told : Type 0) : Type 0 where
@@ -31,32 +28,21 @@ pub record Given {Told : Type 0} (told : Answer → Told) (s : Switch Plain) (cs
   pub buffers : map (λ (c : Call Told). c .buffer) cs ≡ filled (seenOf s (lents cs)) (lents cs)
   pub holds : left ≡ afterAll s (lents cs)
 
--- Calls one after the other: each is handed what the one before it left, and meets its contract.
-pub data Calls : Live → List ℕ → List (Call Answer) → Live → List ℕ → Type 0 where
-  ended : (live : Live) (all : List ℕ) → Calls live all [] live all
-  made : (c : Call Answer) (cs : List (Call Answer)) (live live′ live″ : Live) (all all′ all″ : List ℕ)
-      → Responds (c .lent .deed) live all (c .lent .buffer) (c .answer) live′ all′ (c .buffer)
-      → Calls live′ all′ cs live″ all″ → Calls live all (c ∷ cs) live″ all″
+-- Calls one after the other: each is handed the four arrays as the one before it left them, and meets its contract. The call for a packet is
+-- handed no paddles: its contract holds whatever their bytes are, so it is such a call with the bytes that the caller has.
+pub data Calls {Told : Type 0} (told : Answer → Told) : List ℕ → List ℕ → List ℕ → List ℕ → List (Call Told) → List ℕ → List ℕ → List ℕ → List ℕ → Type 0 where
+  ended : (counters numbers paddles all : List ℕ) → Calls told counters numbers paddles all [] counters numbers paddles all
+  made : (c : Call Told) (cs : List (Call Told)) (counters counters′ counters″ numbers numbers′ numbers″ paddles paddles′ paddles″ all all′ all″ : List ℕ)
+      → Leaves told (respond (switchOf counters numbers paddles all) (eventOf (c .lent))) counters numbers paddles (c .lent .buffer) (c .answer) counters′ numbers′ paddles′ all′ (c .buffer)
+      → Calls told counters′ numbers′ paddles′ all′ cs counters″ numbers″ paddles″ all″
+      → Calls told counters numbers paddles all (c ∷ cs) counters″ numbers″ paddles″ all″
 
--- Whoever starts a switch from 256 bytes and makes any list of calls is given the answers, the packets and the switch of the definitions.
-abbrev pub AfterAnyCalls : Type 0
-AfterAnyCalls =
-    (image all : List ℕ) (a : Answer) (live live″ : Live) (all′ all″ : List ℕ) (cs : List (Call Answer)) → length image ≡ size
-    → Starts image all a live all′ → Calls live all′ cs live″ all″
-    → (a ≡ answerOf 0 [] (startedFrom image .plain)) × Given (λ b. b) (startedFrom image) cs (held live″ all″)
-
--- Calls of the C library one after the other: a switch is its counters, its numbers and its registers.
-pub data Spoken : List ℕ → List ℕ → List ℕ → List (Call Figures) → List ℕ → List ℕ → List ℕ → Type 0 where
-  silent : (counters numbers all : List ℕ) → Spoken counters numbers all [] counters numbers all
-  said : (c : Call Figures) (cs : List (Call Figures)) (counters counters′ counters″ numbers numbers′ numbers″ all all′ all″ : List ℕ)
-      → Speaks (c .lent .deed) counters numbers all (c .lent .buffer) (c .answer) counters′ numbers′ all′ (c .buffer)
-      → Spoken counters′ numbers′ all′ cs counters″ numbers″ all″ → Spoken counters numbers all (c ∷ cs) counters″ numbers″ all″
-
--- The same for the C library.
-abbrev pub AfterAnySpoken : Type 0
-AfterAnySpoken =
-    (image counters numbers all : List ℕ) (r : Figures) (counters′ counters″ numbers′ numbers″ all′ all″ : List ℕ) (cs : List (Call Figures))
+-- Whoever starts a switch from 256 bytes and makes any list of calls is given the answers, the packets and the switch of the definitions. `told`
+-- is how an answer is told: as it is by the switch's own functions, in figures by the C library.
+abbrev pub AfterAnyCalls : {Told : Type 0} → (Answer → Told) → Type 0
+AfterAnyCalls {Told} told =
+    (image counters numbers paddles all : List ℕ) (a : Told) (counters′ counters″ numbers′ numbers″ paddles′ paddles″ all′ all″ : List ℕ) (cs : List (Call Told))
     → length image ≡ size
-    → Begins image counters numbers all r counters′ numbers′ all′ → Spoken counters′ numbers′ all′ cs counters″ numbers″ all″
-    → (r ≡ inFigures (answerOf 0 [] (startedFrom image .plain)))
-    × Given inFigures (startedFrom image) cs (held (liveFrom counters″ numbers″) all″)
+    → Starts told image counters numbers paddles all a counters′ numbers′ paddles′ all′
+    → Calls told counters′ numbers′ paddles′ all′ cs counters″ numbers″ paddles″ all″
+    → (a ≡ told (answerOf 0 [] (startedFrom image .plain))) × Given told (startedFrom image) cs (switchOf counters″ numbers″ paddles″ all″)

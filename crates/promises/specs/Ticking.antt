@@ -15,40 +15,41 @@ use Rattle.vault.specs.Product.{machine}
 use Rattle.vault.specs.declared.Mode.{Mode}
 use Rattle.dimmer.specs.Dimmer.{tickedBy}
 use Rattle.dimmer.specs.declared.Dimmer.{Dimmer}
-use Rattle.lamp.specs.Promises.{lampSkip}
-use Rattle.lamp.specs.declared.Colour.{Colour}
-use Rattle.lamp.specs.declared.Colour.the-variants.{Black}
 use Rattle.paddle.specs.Paddle.{down, gesture}
 use Rattle.paddle.specs.Promises.{paddleSkip, paddleTicks}
 use Rattle.paddle.specs.declared.Gesture.{Gesture}
 use Rattle.paddle.specs.declared.Gesture.the-variants.{Nothing, Taps, Hold, Release}
 use Rattle.paddle.specs.declared.Paddle.{Paddle}
+use Rattle.lamp.specs.Promises.{lampSkip}
+use Rattle.lamp.specs.declared.Colour.{Colour}
+use Rattle.lamp.specs.declared.Colour.the-variants.{Black}
+use Rattle.model.specs.Model.{paddleOf, room, paddleCount}
 use Rattle.registers.specs.Write.{applied}
 use Rattle.registers.specs.declared.write.Write.the-variants.{Save}
 use Rattle.acts.specs.Core.{core, saveTicks}
 use Rattle.acts.specs.Gestures.{acted}
 use Rattle.acts.specs.declared.Core.{Core}
-use Rattle.post.specs.Post.{announced}
-use Rattle.switch.specs.Switch.{Deed, Event, Plain, Shown, event, plain, press, release, tally, tick}
-use Rattle.switch.specs.Events.{paddleAt, paddleOf}
+use Rattle.post.specs.Post.{announced, tally}
+use Rattle.state.specs.Paddles.{paddleAt}
+use Rattle.switch.specs.Switch.{Deed, Event, Plain, Shown, event, plain, press, release, tick}
 use Rattle.switch.specs.Respond.{respond, wallSwitch}
 
--- An event with a buffer of 48 bytes.
-abbrev pub with48 : Deed → Event
-with48 d = event 48 d
+-- An event with a buffer of just the room that it asks for.
+abbrev pub withRoom : Deed → Event
+withRoom d = event room d
 
 -- What is said of these holds of every longer buffer: more room makes no difference.
 abbrev pub RoomToSpare : Type 0
-RoomToSpare = (s : Switch Plain) (room : ℕ) (d : Deed) → 48 ≤ room → respond s (event room d) ≡ respond s (with48 d)
+RoomToSpare = (s : Switch Plain) (lent : ℕ) (d : Deed) → room ≤ lent → respond s (event lent d) ≡ respond s (withRoom d)
 
 -- So many ticks.
 unfoldable pub ticksOf : ℕ → List Event
 ticksOf zero = []
-ticksOf (suc n) = with48 tick ∷ ticksOf n
+ticksOf (suc n) = withRoom tick ∷ ticksOf n
 
 -- A press of so many ticks, and its release.
 abbrev pub pressOf : ℕ → ℕ → List Event
-pressOf n contact = with48 (press contact) ∷ ticksOf n ++ with48 (release contact) ∷ []
+pressOf n contact = withRoom (press contact) ∷ ticksOf n ++ withRoom (release contact) ∷ []
 
 -- The switch after some events.
 abbrev pub runOf : Switch Plain → List Event → Switch Plain
@@ -92,7 +93,7 @@ Unmoved s es = Throughout (machine wallSwitch) (λ t e. Shows (modeIn s) (levelI
 
 -- What the next tick shows.
 abbrev pub nextTick : Switch Plain → Shown
-nextTick s = respond s (with48 tick) .shown
+nextTick s = respond s (withRoom tick) .shown
 
 -- What the nth tick from now shows, n counted from 1.
 abbrev pub nthTick : Switch Plain → ℕ → Shown
@@ -108,7 +109,7 @@ Silent n s = (contact k : ℕ) → k < n → gesture (paddleTicks k (paddleAt co
 -- whatever fades or blinks.
 abbrev pub LeftToItself : Type 0
 LeftToItself =
-    (s : Switch Plain) (n : ℕ) → length (s .plain .paddles) ≡ 2 → Steady s → Silent n s → 1 ≤ n
+    (s : Switch Plain) (n : ℕ) → length (s .plain .paddles) ≡ paddleCount → Steady s → Silent n s → 1 ≤ n
     → Shows (modeIn s) (tickedBy n (dimmerIn s) .level) [] (nthTick s n)
 
 -- Where n ticks save the level, how many of them come after the last one that does.
@@ -136,11 +137,11 @@ plainBy n p = plain (registersBy n p) (coreBy n (p .core)) (map (paddleSkip n) (
 -- So it is after n ticks in which no paddle completes a gesture; the password is kept.
 abbrev pub TicksAtOnce : Type 0
 TicksAtOnce =
-    (s : Switch Plain) (n : ℕ) → length (s .plain .paddles) ≡ 2 → Silent n s → runOf s (ticksOf n) ≡ switch (plainBy n (s .plain)) (s .password)
+    (s : Switch Plain) (n : ℕ) → length (s .plain .paddles) ≡ paddleCount → Silent n s → runOf s (ticksOf n) ≡ switch (plainBy n (s .plain)) (s .password)
 
--- A switch with two paddles, both up and with no tap counted, and no flash, as every start leaves it.
+-- A switch with all its paddles up and with no tap counted, and no flash, as every start leaves it.
 pub record AtRest (s : Switch Plain) : Type 0 where
-  pub two : length (s .plain .paddles) ≡ 2
+  pub count : length (s .plain .paddles) ≡ paddleCount
   pub steady : Steady s
   pub up : (contact : ℕ) → down (paddleAt contact (s .plain .paddles)) ≡ false
   pub untapped : (contact : ℕ) → paddleAt contact (s .plain .paddles) .taps ≡ 0
@@ -177,11 +178,11 @@ pub record IsTaps (taps contact : ℕ) (s : Switch Plain) (es : List Event) : Ty
 -- A press of 180 ticks is Hold: nothing comes of its first 179 ticks; the 180th shows what Hold does and sends; the release stops it at
 -- the level that it then has, and sends as Release; from then on that level stands.
 pub record IsHold (contact : ℕ) (s : Switch Plain) : Type 0 where
-  pub before : Unmoved s (with48 (press contact) ∷ ticksOf 179)
-  pub acts : ShowsGesture Hold contact s (nextTick (runOf s (with48 (press contact) ∷ ticksOf 179)))
+  pub before : Unmoved s (withRoom (press contact) ∷ ticksOf 179)
+  pub acts : ShowsGesture Hold contact s (nextTick (runOf s (withRoom (press contact) ∷ ticksOf 179)))
   pub release :
       Shows (modeIn s) (dimmerBy Hold contact s .level) (packetsBy Release contact s (dimmerBy Hold contact s .level))
-      (respond (runOf s (with48 (press contact) ∷ ticksOf 180)) (with48 (release contact)) .shown)
+      (respond (runOf s (withRoom (press contact) ∷ ticksOf 180)) (withRoom (release contact)) .shown)
   pub after : (m : ℕ) → 1 ≤ m → Shows (modeIn s) (dimmerBy Hold contact s .level) [] (nthTick (runOf s (pressOf 180 contact)) m)
 
 -- ---- a fade from dark

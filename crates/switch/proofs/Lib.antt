@@ -1,7 +1,6 @@
 pub mod Laws
-pub mod Turning
-pub mod Laying
-pub mod Finishing
 pub mod Quick
-pub mod Waking
+pub mod Pressing
+pub mod Ticking
 pub mod Receiving
+pub mod Waking

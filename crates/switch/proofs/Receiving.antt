@@ -1,161 +1,128 @@
 -- A received packet, over what its callees promise.
-use mathlib.Core.Path.{_≡_, refl, sym, subst, _∙_}
-use mathlib.Core.Bool.{Bool, true, false, not, false≢true}
+use mathlib.Core.Path.{_≡_, refl, sym, ap, subst, _∙_}
+use mathlib.Core.Bool.{Bool, true, false, cond}
 use mathlib.Core.List.{List, [], _∷_}
-use Prim.Native.Nat.{ℕ, _≤_, _<_}
+use Prim.Native.Nat.{ℕ, _≤_}
 use native.Mathlib.Omega.{arith}
 use lib.ListN.{length, drop}
-use borrow.Author.Tests.{ne-eqb, not-true, not-false}
 use types.Run.{OneOf, miss}
 use denote.Enum.Declared.{tagOf}
-use Rattle.words.proofs.Laws.{one-outcome}
 use Rattle.units.specs.Units.{percentOf}
-use Rattle.units.specs.declared.Percent.{Percent}
-use Rattle.vault.specs.Job.{changed, became, nothing, settled, done}
-use Rattle.vault.specs.Product
-use Rattle.vault.specs.Vault.{matches, inSetup}
+use Rattle.lamp.specs.Lamp.{signalSet}
+use Rattle.lamp.specs.declared.Colour.{Colour}
+use Rattle.lamp.specs.declared.Colour.the-variants.{Black}
+use Rattle.lamp.specs.declared.Lamp.{Lamp}
+use Rattle.vault.specs.Job.{Answered, answered, changed, became, done, nothing, settled}
+use Rattle.vault.specs.Vault.{inSetup, matches}
 use Rattle.vault.specs.declared.Mode.{Mode}
 use Rattle.vault.specs.declared.Mode.the-variants.{Normal, Setup, Factory}
 use Rattle.vault.specs.declared.Password.{Password}
-use Rattle.lamp.specs.declared.Colour.{Colour}
-use Rattle.packet.specs.Reading.{readOf, messageOf, numberOfFrame}
+use Rattle.packet.specs.Reading.{messageFrom, messageOf, numberOfFrame, readOf}
 use Rattle.packet.specs.declared.Frame.{Frame}
 use Rattle.packet.specs.declared.Frame.the-variants as frame
 use Rattle.packet.specs.declared.Header.{Header}
-use Rattle.packet.specs.Layout.{packed}
 use Rattle.packet.proofs.Frame
-use Rattle.packet.proofs.Laws.{packed-length}
+use Rattle.model.specs.Model.{place, room}
 use Rattle.judge.specs.Judge.{judged}
 use Rattle.judge.specs.declared.Order.{Order}
-use Rattle.judge.specs.declared.Work.{Work}
-use Rattle.acts.specs.Core.{opened, unwritten, signalled}
-use Rattle.acts.specs.Orders.{performed}
+use Rattle.judge.specs.declared.Order.the-variants as order
+use Rattle.acts.specs.Core.{core, opened, signalled, unwritten}
 use Rattle.acts.specs.declared.Core.{Core}
 use Rattle.acts.specs.declared.Effect.{Effect}
-use Rattle.post.specs.Post.{enveloped, headed, placed, replied, replyMessage}
-use Rattle.model.specs.Model.{place}
-use Rattle.post.specs.declared.Reply.{Reply}
-use Rattle.post.specs.declared.Reply.the-variants as reply
-use Rattle.post.proofs.Laws.{laid-fits, reply-fits, reply-placed, whole-buffer}
-use Rattle.post.specs.Code.{front, Laid}
 use Rattle.registers.specs.Write.{applied, changeOf, changeAt}
-use Rattle.registers.specs.declared.Seen.{Seen}
 use Rattle.registers.specs.declared.Seen.the-variants as seen
-use Rattle.switch.specs.Switch.{Plain, plain, event, receive, held, tally, answerWith, answerOf}
-use Rattle.switch.specs.Events.{outcomeOf, jobOfDeed, garbled, jobOfRead, hueOf, job, plainAfter, jobOfWork, jobOfGuess, jobOfOrder, jobOfFrame, jobOfBytes, refused, replyTo}
-use Rattle.switch.specs.Respond.{Responds}
-use Rattle.switch.specs.Code.{Answers, Handles, OneHandled, Settles, garbledBy, handled, lived, unmoved, added, seenBy}
+use Rattle.post.specs.Post.{enveloped, placed, replied, replyMessage, tally}
+use Rattle.post.specs.declared.Reply.the-variants as reply
+use Rattle.post.specs.declared.outbox.Sent.{Sent}
+use Rattle.post.specs.Code.{lone}
+use Rattle.post.proofs.Laying.{reply-sends}
+use Rattle.state.specs.State.{coreOf, lampOf, modeIn, passwordOf}
+use Rattle.state.specs.Paddles.{paddlesOf}
+use Rattle.state.specs.Code.{CoreKept, LampKept, Sized}
+use Rattle.state.proofs.Laws.{only-lamp, paddles-same}
+use Rattle.obey.specs.Obey.{hueOf}
+use Rattle.obey.specs.Code.{Obeys, Ready, effectOf, hueBy, replyOf, seenBy, seenOf, verdictOf, verdictOn}
+use Rattle.obey.specs.declared.Verdict.{Verdict}
+use Rattle.obey.specs.declared.Verdict.the-variants.{Stop, Go}
+use Rattle.obey.proofs.Laws.{hue-told}
+use Rattle.switch.specs.Switch.{Plain, Shown, answerWith, event, plain, receive, switchOf}
+use Rattle.switch.specs.Events.{garbled, jobOfBytes, jobOfDeed, jobOfFrame, jobOfGuess, jobOfOrder, jobOfRead, jobOfWork, outcomeOf, plainAfter, refused}
+use Rattle.switch.specs.Respond.{Responds, respond}
+use Rattle.switch.specs.Code.{told}
 use Rattle.switch.specs.declared.Answer.{Answer}
-use Rattle.switch.specs.declared.Live.{Live}
-use Rattle.switch.specs.declared.Sent.{Sent}
-use Rattle.switch.specs.declared.receive.Handled.{Handled}
-use Rattle.paddle.specs.declared.Paddle.{Paddle}
-use Rattle.switch.proofs.Laws.{enough-room, no-room}
+use Rattle.switch.proofs.Laws.{leaves-all, leaves-shown, says, unchanged}
 
--- One reply at most: its length counted is its tally.
-tallied-one : (h : Header) (m : List ℕ) → added (tally []) (length (front (enveloped h m))) ≡ tally (enveloped h m)
-unfolding added tally front enveloped
-tallied-one h [] = refl
-tallied-one h (b ∷ bytes) = simp (ne-eqb (length (packed h (b ∷ bytes))) 0 (omega (arith, packed-length h (b ∷ bytes))))
+-- A stop is no grant, and has one number.
+stops : Verdict → ℕ
+stops (Stop n) = 1
+stops Go = 0
 
-pub one-tallied : (all : List ℕ) (s : Seen) (to : ℕ) (r : Reply) (p : Percent) → added (tally []) (length (front (replied all s to r p))) ≡ tally (replied all s to r p)
-unfolding replied
-one-tallied all s to r p = tallied-one (headed all false to) (replyMessage all s r p)
+number-of : Verdict → ℕ
+number-of (Stop n) = n
+number-of Go = 0
 
--- What is done is written, shown and answered.
-pub answered-so :
-    (e : Effect) (w : Password) (all values : List ℕ) (source : ℕ) (r : Reply) (s : Seen) (out all′ out′ : List ℕ)
-    (w′ : Password) (hue : Colour) (core : Core) (percent : Percent) (n : ℕ) (none sent : Sent) (answer : Answer)
-    → 48 ≤ length out
-    → all′ ≡ applied (e .write) values all
-    → w′ ≡ changed (changeOf (e .write) values) w
-    → hue ≡ hueOf r → core ≡ signalled hue (e .core) → percent ≡ percentOf (core .dimmer .level)
-    → Laid (replied all′ s source r percent) out n out′
-    → none ≡ tally [] → sent ≡ added none n → answer ≡ answerWith 0 sent all′ core
-    → Answers e values source r s w all out (handled answer w′ core) all′ out′
-unfolding outcomeOf plainAfter answerOf
-answered-so e w all values source r s out all′ out′ w′ hue core percent n none sent answer room a x h c p laid z t shows =
-    let reply = replied all′ s source r percent in
-    let fits : length (front reply) ≤ place = reply-fits all′ s source r percent in
-    let whole : place ≤ length out = omega arith in
-    let size : n ≡ length (front reply) = laid-fits reply out out′ n fits whole laid in
-    let lays : out′ ≡ placed reply out = laid .bytes ∙ whole-buffer (front reply) out fits whole ∙ reply-placed all′ s source r percent out in
-    record {
-      answered = λ ps. rw (← h, ← c, ← p, ← a, ← one-tallied all′ s source r percent, ← size, ← z, ← t) shows;
-      next = λ ps. rw (← h, ← c, ← a, ← x);
-      bytes = λ ps. rw (← h, ← c, ← p, ← a) lays;
-    }
+apart-verdicts : (n : ℕ) → Go ≡ Stop n → ⊥
+unfolding stops
+apart-verdicts n h = let z : _≡_ {A = ℕ} 0 1 = ap stops h in absurd (omega arith)
 
--- The password is seen in Setup alone.
-seen-in-setup : (mode : Mode) (w : Password) → inSetup mode ≡ true → seenBy mode w ≡ seen.Shown w
-unfolding inSetup seenBy
-seen-in-setup Normal w h = absurd (false≢true h)
-seen-in-setup Setup w h = refl
-seen-in-setup Factory w h = absurd (false≢true h)
+same-number : {m n : ℕ} → Stop m ≡ Stop n → m ≡ n
+unfolding number-of
+same-number h = ap number-of h
 
-hidden-outside : (mode : Mode) (w : Password) → inSetup mode ≡ false → seenBy mode w ≡ seen.Hidden
-unfolding inSetup seenBy
-hidden-outside Normal w h = refl
-hidden-outside Setup w h = absurd (false≢true (sym h))
-hidden-outside Factory w h = refl
+-- A guess is granted or stopped by whether it matches.
+guess-granted : (w guess : Password) → verdictOn w guess ≡ Go → matches w guess ≡ true
+unfolding verdictOn
+guess-granted w guess = go (matches w guess)
+  where
+    go : (b : Bool) → cond b Go (Stop 14) ≡ Go → b ≡ true
+    go true h = refl
+    go false h = absurd (apart-verdicts 14 (sym h))
 
--- An order is settled as its job says: refused, or its guess compared, its registers shown, its work done.
-module _ (w : Password) (c : Core) (all out : List ℕ) (h : Handled) where
-  pub refused-so : (n : ℕ) → h ≡ unmoved n w c all → Settles (λ p. done (refused n p) nothing) w c all out h all out
-  unfolding settled refused unmoved answerOf changed became placed
-  refused-so n e = rw e record { answered = λ ps. refl; next = λ ps. refl; bytes = λ ps. refl }
+guess-stopped : (w guess : Password) (n : ℕ) → verdictOn w guess ≡ Stop n → (matches w guess ≡ false) × (n ≡ 14)
+unfolding verdictOn
+guess-stopped w guess n = go (matches w guess)
+  where
+    go : (b : Bool) → cond b Go (Stop 14) ≡ Stop n → (b ≡ false) × (n ≡ 14)
+    go true h = absurd (apart-verdicts n h)
+    go false h = (refl, sym (same-number h))
 
-  pub wrong-guess : (guess : Password) (right : Bool) → right ≡ matches w guess → not right ≡ true → h ≡ unmoved 14 w c all → Settles (jobOfGuess guess) w c all out h all out
-  unfolding jobOfGuess settled refused unmoved answerOf placed
-  wrong-guess guess right r z e =
-      let m : matches w guess ≡ false = sym r ∙ not-true right z in
-      rw e record { answered = λ ps. rw m; next = λ ps. rw m; bytes = λ ps. rw m }
+-- A reading shows the password in Setup alone.
+seen-outcome :
+    (first count source : ℕ) (p : Plain) (w : Password) (mode : Mode) → p .core .mode ≡ mode
+    → settled w (jobOfRead first count source p)
+    ≡ answered (outcomeOf (unwritten (p .core)) [] source (reply.Registers first count) p (seenBy mode w)) w
+unfolding jobOfRead settled seenBy inSetup changed became outcomeOf plainAfter
+seen-outcome first count source p w Normal e = rw e
+seen-outcome first count source p w Setup e = rw e
+seen-outcome first count source p w Factory e = rw e
 
-  module _ (e : Effect) (all′ out′ : List ℕ) where
-    pub right-guess :
-        (guess : Password) (right : Bool) → right ≡ matches w guess → not right ≡ false
-        → e ≡ opened c → Answers e [] 0 reply.Silence seen.Hidden w all out h all′ out′
-        → Settles (jobOfGuess guess) w c all out h all′ out′
-    unfolding jobOfGuess settled outcomeOf plainAfter opened changeOf changeAt changed became
-    right-guess guess right r z d a =
-        let m : matches w guess ≡ true = sym r ∙ not-false right z in
-        let b = subst (λ (x : Effect). Answers x [] 0 reply.Silence seen.Hidden w all out h all′ out′) d a in
-        record { answered = λ ps. rw m (b .answered ps); next = λ ps. rw m (b .next ps); bytes = λ ps. rw m (b .bytes ps) }
+-- What a granted order comes to.
+abbrev granted : Order → ℕ → List ℕ → Plain → Password → Answered Plain Shown
+granted o source values p w =
+    let e = effectOf (p .registers) o (p .core) in
+    answered (outcomeOf e values source (replyOf o) p (seenOf o (p .core .mode) w)) (changed (changeOf (e .write) values) w)
 
-    pub shown-so :
-        (first count source : ℕ) (s : Seen) → s ≡ seenBy (c .mode) w
-        → e ≡ unwritten c → Answers e [] source (reply.Registers first count) s w all out h all′ out′
-        → Settles (jobOfRead first count source) w c all out h all′ out′
-    unfolding jobOfRead settled outcomeOf plainAfter unwritten changeOf changeAt changed became
-    shown-so first count source s f d a = by-test (inSetup (c .mode)) refl
-      where
-        b : Answers (unwritten c) [] source (reply.Registers first count) s w all out h all′ out′
-        b = subst (λ (x : Effect). Answers x [] source (reply.Registers first count) s w all out h all′ out′) d a
+pub says-granted :
+    (o : Order) (source : ℕ) (values : List ℕ) (p : Plain) (w : Password) → verdictOf o w ≡ Go
+    → settled w (jobOfOrder o source values p) ≡ granted o source values p w
+unfolding verdictOf jobOfOrder jobOfGuess jobOfWork settled effectOf replyOf seenOf outcomeOf plainAfter opened unwritten applied changeOf changeAt changed became replied replyMessage enveloped
+says-granted (order.Refused n) source values p w h = absurd (apart-verdicts n (sym h))
+says-granted (order.Guess guess) source values p w h = rw (guess-granted w guess h)
+says-granted (order.Read first count) source values p w h = seen-outcome first count source p w (p .core .mode) refl
+says-granted (order.Work o) source values p w h = refl
 
-        by-test : (t : Bool) → inSetup (c .mode) ≡ t → Settles (jobOfRead first count source) w c all out h all′ out′
-        by-test true m =
-            let e : s ≡ seen.Shown w = f ∙ seen-in-setup (c .mode) w m in
-            record {
-              answered = λ ps. rw (m, ← e) (b .answered ps);
-              next = λ ps. rw m (b .next ps);
-              bytes = λ ps. rw (m, ← e) (b .bytes ps);
-            }
-        by-test false m =
-            let e : s ≡ seen.Hidden = f ∙ hidden-outside (c .mode) w m in
-            record {
-              answered = λ ps. rw (m, ← e) (b .answered ps);
-              next = λ ps. rw m (b .next ps);
-              bytes = λ ps. rw (m, ← e) (b .bytes ps);
-            }
+pub says-stopped :
+    (o : Order) (source : ℕ) (values : List ℕ) (p : Plain) (w : Password) (n : ℕ) → verdictOf o w ≡ Stop n
+    → settled w (jobOfOrder o source values p) ≡ told n [] p w
+unfolding verdictOf jobOfOrder jobOfGuess settled refused changed became
+says-stopped (order.Refused m) source values p w n h = rw (← same-number h)
+says-stopped (order.Guess guess) source values p w n h =
+    let s = guess-stopped w guess n h in
+    rw (s .0, s .1)
+says-stopped (order.Read first count) source values p w n h = absurd (apart-verdicts n h)
+says-stopped (order.Work o) source values p w n h = absurd (apart-verdicts n h)
 
-    pub done-so :
-        (o : Work) (source : ℕ) (values : List ℕ) (r : Reply) → e ≡ performed all o c → r ≡ replyTo o
-        → Answers e values source r seen.Hidden w all out h all′ out′
-        → Settles (jobOfWork o source values) w c all out h all′ out′
-    unfolding jobOfWork settled outcomeOf plainAfter
-    done-so o source values r d t a =
-        let b : Answers (performed all o c) values source (replyTo o) seen.Hidden w all out h all′ out′ = rw (← d, ← t) a in b
-
+-- What `let Frame::Read(..) = frame else` leaves does not read.
 unread : (f : Frame) (message : List ℕ) (p : Plain) → OneOf (1 ∷ 2 ∷ 3 ∷ 4 ∷ 5 ∷ []) (tagOf Frame.the-type f) → jobOfFrame f message p ≡ done (garbled (numberOfFrame f) p) nothing
 unfolding jobOfFrame
 unread (frame.Read h) message p k = absurd (miss (1 ∷ 2 ∷ 3 ∷ 4 ∷ 5 ∷ []) 0 tt k)
@@ -165,58 +132,86 @@ unread frame.Length message p k = refl
 unread frame.Sum message p k = refl
 unread frame.Reserved message p k = refl
 
--- A packet without room for an answer, one that does not read, and one that is settled by its order.
-module _ (bytes : List ℕ) (w : Password) (c : Core) (all out : List ℕ) where
-  pub handles-short : (h : Handled) → length out < 48 → h ≡ unmoved 2 w c all → Handles bytes w c all out h all out
-  unfolding Product.responseOf settled refused unmoved answerOf changed became placed
-  handles-short h short e =
-      rw e
-      record {
-        answered = λ ps. rw (no-room (plain all c ps) (length out) (receive bytes) short);
-        next = λ ps. rw (no-room (plain all c ps) (length out) (receive bytes) short);
-        bytes = λ ps. rw (no-room (plain all c ps) (length out) (receive bytes) short);
-      }
+-- The signal kept alone.
+pub signal-alone :
+    (hue : Colour) (c n c′ n′ : List ℕ) → LampKept (signalSet hue (lampOf c n)) c n c′ n′ → CoreKept (signalled hue (coreOf c n)) (passwordOf n) c n c′ n′
+unfolding coreOf signalled
+signal-alone hue c n c′ n′ kept =
+    let whole = only-lamp c n (signalSet hue (lampOf c n)) in
+    record { counted = kept .counted ∙ sym (whole .0); numbered = kept .numbered ∙ sym (whole .1) }
 
-  module _ (room : 48 ≤ length out) where
-    pub handles-garbled :
-        (f : Frame) (n : ℕ) (h : Handled) → f ≡ readOf bytes → OneOf (1 ∷ 2 ∷ 3 ∷ 4 ∷ 5 ∷ []) (tagOf Frame.the-type f)
-        → n ≡ numberOfFrame f → h ≡ garbledBy n w c all
-        → Handles bytes w c all out h all out
-    unfolding Product.responseOf jobOfDeed jobOfBytes settled garbled garbledBy unmoved answerOf changed became placed
-    handles-garbled f n h e k m g =
-        rw (g, m)
-        record { answered = λ ps. rw (asked ps); next = λ ps. rw (asked ps); bytes = λ ps. rw (asked ps) }
-      where
-        asked : (ps : List Paddle) → job (plain all c ps) (event (length out) (receive bytes)) ≡ done (garbled (numberOfFrame f) (plain all c ps)) nothing
-        asked ps = enough-room (plain all c ps) (length out) (receive bytes) room ∙ rw (← e) (unread f (messageOf bytes) (plain all c ps) k)
+-- The signal kept after an act.
+kept-signalled :
+    (k : Core) (w : Password) (hue : Colour) (c n c₁ n₁ c₂ n₂ : List ℕ) → LampKept (signalSet hue (k .lamp)) c₁ n₁ c₂ n₂ → Ready k w c n c₁ n₁
+    → CoreKept (signalled hue k) w c n c₂ n₂
+unfolding signalled
+kept-signalled k w hue c n c₁ n₁ c₂ n₂ lamp ready =
+    let l = signalSet hue (k .lamp) in
+    record { counted = lamp .counted ∙ ready .counted l; numbered = lamp .numbered ∙ ready .numbered l }
 
-    pub handles-read :
-        (header : Header) (o : Order) (message values : List ℕ) (h : Handled) (all′ out′ : List ℕ)
-        → readOf bytes ≡ frame.Read header → message ≡ messageOf bytes → o ≡ judged all (c .mode) header message → values ≡ drop 2 message
-        → Settles (jobOfOrder o (header .source) values) w c all out h all′ out′
-        → Handles bytes w c all out h all′ out′
-    unfolding Product.responseOf jobOfDeed jobOfBytes jobOfFrame
-    handles-read header o message values h all′ out′ f m j v s =
-        let b : Settles (jobOfOrder (judged all (c .mode) header (messageOf bytes)) (header .source) (drop 2 (messageOf bytes))) w c all out h all′ out′ = rw (← m, ← j, ← v) s in
-        record {
-          answered = λ ps. rw (enough-room (plain all c ps) (length out) (receive bytes) room, f) (b .answered ps);
-          next = λ ps. rw (enough-room (plain all c ps) (length out) (receive bytes) room, f) (b .next ps);
-          bytes = λ ps. rw (enough-room (plain all c ps) (length out) (receive bytes) room, f) (b .bytes ps);
-        }
+module _ (bytes c n l all out : List ℕ) (enough : room ≤ length out) (f : Frame) (read : f ≡ readOf bytes) where
+  asked : respond (switchOf c n l all) (event (length out) (receive bytes)) ≡ settled (passwordOf n) (jobOfFrame f (messageFrom f bytes) (switchOf c n l all .plain))
+  unfolding jobOfDeed jobOfBytes messageOf
+  asked =
+      says (switchOf c n l all .plain) (passwordOf n) (length out) (receive bytes) enough
+      ∙ ap (λ (x : Frame). settled (passwordOf n) (jobOfFrame x (messageFrom x bytes) (switchOf c n l all .plain))) (sym read)
 
--- What becomes of core and password becomes of the switch that they are parts of.
-pub handled-responds :
-    (bytes : List ℕ) (live : Live) (all out : List ℕ) (h : Handled) (all′ out′ : List ℕ)
-    → Handles bytes (live .password) (live .core) all out h all′ out′
-    → Responds (receive bytes) live all out (h .answer) (lived (h .password) (h .core) (live .paddles)) all′ out′
-handled-responds bytes live all out h all′ out′ s =
-    record { answered = s .answered (live .paddles); next = s .next (live .paddles); bytes = s .bytes (live .paddles) }
+  pub garbled-responds :
+      (number : ℕ) (c′ n′ : List ℕ) (none : Sent) (r : Answer) → Sized c n
+      → OneOf (1 ∷ 2 ∷ 3 ∷ 4 ∷ 5 ∷ []) (tagOf Frame.the-type f) → number ≡ numberOfFrame f
+      → LampKept (signalSet Black (lampOf c n)) c n c′ n′
+      → none ≡ tally [] → r ≡ answerWith number none all (coreOf c′ n′)
+      → Responds (receive bytes) c n l all out r c′ n′ l all out
+  unfolding settled garbled placed
+  garbled-responds number c′ n′ none r sized tag numbered kept none-sent shows =
+      leaves-shown _ number [] (signalled Black (coreOf c n)) (passwordOf n) (paddlesOf l) c n l out none r c′ n′ l all out sized
+      (asked ∙ ap (settled (passwordOf n)) (unread f (messageFrom f bytes) (switchOf c n l all .plain) tag) ∙ rw (unchanged (passwordOf n), numbered))
+      none-sent shows (signal-alone Black c n c′ n′ kept) (sym (paddles-same l)) refl
 
--- No two outcomes: two answers to a packet that keep the promise are one, with the same registers and the same bytes.
-pub one-handled : OneHandled
-one-handled bytes w c all out h h′ all′ all″ out′ out″ x y =
-    let answer : h .answer ≡ h′ .answer = one-outcome (h .answer) (h′ .answer) (x .answered []) (y .answered []) in
-    let next : held (lived (h .password) (h .core) []) all′ ≡ held (lived (h′ .password) (h′ .core) []) all″ = x .next [] ∙ sym (y .next []) in (
-      λ i. handled (answer i) (next i .password) (next i .plain .core),
-      (λ i. next i .plain .registers, one-outcome out′ out″ (x .bytes []) (y .bytes [])),
-    )
+  module _ (h : Header) (message : List ℕ) (mode : Mode) (o : Order) (reads : f ≡ frame.Read h) (framed : message ≡ messageFrom (frame.Read h) bytes) (moded : mode ≡ modeIn n)
+      (judges : o ≡ judged all mode h message) where
+    ordered : respond (switchOf c n l all) (event (length out) (receive bytes)) ≡ settled (passwordOf n) (jobOfOrder o (h .source) (drop 2 message) (switchOf c n l all .plain))
+    unfolding jobOfFrame coreOf
+    ordered =
+        asked
+        ∙ ap (λ (x : List ℕ). settled (passwordOf n) (jobOfFrame f x (switchOf c n l all .plain))) (ap (λ (x : Frame). messageFrom x bytes) reads ∙ sym framed)
+        ∙ ap (λ (x : Frame). settled (passwordOf n) (jobOfFrame x message (switchOf c n l all .plain))) reads
+        ∙ ap (λ (x : Order). settled (passwordOf n) (jobOfOrder x (h .source) (drop 2 message) (switchOf c n l all .plain))) (ap (λ (x : Mode). judged all x h message) (sym moded) ∙ sym judges)
+
+    pub stopped-responds :
+        (v : Verdict) (w : Password) (number : ℕ) (none : Sent) (r : Answer) → w ≡ passwordOf n → v ≡ verdictOf o w → v ≡ Stop number
+        → none ≡ tally [] → r ≡ answerWith number none all (coreOf c n)
+        → Responds (receive bytes) c n l all out r c n l all out
+    stopped-responds v w number none r own judged-so stops none-sent shows =
+        leaves-all _ number c n l all out none r
+        (ordered ∙ says-stopped o (h .source) (drop 2 message) (switchOf c n l all .plain) (passwordOf n) number (ap (verdictOf o) (sym own) ∙ sym judged-so ∙ stops))
+        none-sent shows
+
+    pub granted-responds :
+        (v : Verdict) (w : Password) (values : List ℕ) (size : ℕ) (hue : Colour) (c₁ n₁ all₁ out₁ c₂ n₂ : List ℕ) (sent : Sent) (r : Answer)
+        → w ≡ passwordOf n → v ≡ verdictOf o w → v ≡ Go → values ≡ drop 2 message → Sized c n
+        → Obeys (effectOf all o (coreOf c n)) values (h .source) (replyOf o) (seenOf o (modeIn n) (passwordOf n)) c n all out size c₁ n₁ all₁ out₁
+        → hue ≡ hueBy size → LampKept (signalSet hue (lampOf c₁ n₁)) c₁ n₁ c₂ n₂ → sent ≡ lone size → r ≡ answerWith 0 sent all₁ (coreOf c₂ n₂)
+        → Responds (receive bytes) c n l all out r c₂ n₂ l all₁ out₁
+    unfolding outcomeOf plainAfter coreOf signalled
+    granted-responds v w values size hue c₁ n₁ all₁ out₁ c₂ n₂ sent r own judged-so goes behind sized obeys hued lamp counted shows =
+        let w₀ = passwordOf n in
+        let k₀ = coreOf c n in
+        let e = effectOf all o k₀ in
+        let rep = replyOf o in
+        let seen-so = seenOf o (modeIn n) w₀ in
+        let source = h .source in
+        let packets = replied all₁ seen-so source rep (percentOf (e .core .dimmer .level)) in
+        let fits : place ≤ length out = omega arith in
+        let sends = reply-sends all₁ seen-so source rep (percentOf (e .core .dimmer .level)) out out₁ size sent fits (obeys .laid) counted in
+        let colour : hue ≡ hueOf rep = hued ∙ hue-told all₁ seen-so source rep (percentOf (e .core .dimmer .level)) out out₁ size fits (obeys .laid) in
+        let k = signalled (hueOf rep) (e .core) in
+        let w′ = changed (changeOf (e .write) values) w₀ in
+        let signal : signalSet hue (lampOf c₁ n₁) ≡ signalSet (hueOf rep) (e .core .lamp) = ap (λ (x : Colour). signalSet x (lampOf c₁ n₁)) colour ∙ ap (signalSet (hueOf rep)) (obeys .ready .lamp) in
+        let kept : CoreKept k w′ c n c₂ n₂ = kept-signalled (e .core) w′ (hueOf rep) c n c₁ n₁ c₂ n₂ (subst (λ (x : Lamp). LampKept x c₁ n₁ c₂ n₂) signal lamp) (obeys .ready) in
+        leaves-shown _ 0 packets k w′ (paddlesOf l) c n l out sent r c₂ n₂ l all₁ out₁ sized
+        (ordered
+        ∙ ap (λ (x : List ℕ). settled w₀ (jobOfOrder o source x (switchOf c n l all .plain))) (sym behind)
+        ∙ says-granted o source values (switchOf c n l all .plain) w₀ (ap (verdictOf o) (sym own) ∙ sym judged-so ∙ goes)
+        ∙ rw (← obeys .registers))
+        (sends .counted) shows kept (sym (paddles-same l)) (sends .bytes)

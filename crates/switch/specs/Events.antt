@@ -1,9 +1,9 @@
 -- What each event asks of the switch, as a job. jobOfX is the job that X makes of a state: a deed, its bytes, their frame, its order, its
 -- work. The password is no argument of any of them; a job can hold a guess to compare with it or a function to show it by (vault).
 use mathlib.Core.List.{List, [], _∷_, map}
-use Prim.Native.Nat.{ℕ, _%_}
-use lib.Dec.{ltb}
-use lib.ListN.{getD, set, drop}
+use Prim.Native.Nat.{ℕ}
+use lib.Dec.{ltb, leb}
+use lib.ListN.{drop}
 use Rattle.words.specs.Words.{if_then_else_}
 use Rattle.units.specs.Units.{percentOf}
 use Rattle.vault.specs.Job.{Job, Outcome, compare, done, nothing, outcome, reveal}
@@ -14,11 +14,9 @@ use Rattle.lamp.specs.declared.Colour.the-variants.{Black, Red, Green}
 use Rattle.packet.specs.Reading.{readOf, numberOfFrame, messageOf}
 use Rattle.packet.specs.declared.Frame.{Frame}
 use Rattle.packet.specs.declared.Frame.the-variants as frame
-use Rattle.paddle.specs.Paddle.{freshPaddle, pressed, released, gestureUp, nextPaddle}
-use Rattle.paddle.specs.declared.Contact.{Contact}
-use Rattle.paddle.specs.declared.Contact.the-variants.{Local, Slave}
-use Rattle.paddle.specs.declared.Gesture.{Gesture}
+use Rattle.paddle.specs.Paddle.{nextPaddle}
 use Rattle.paddle.specs.declared.Paddle.{Paddle}
+use Rattle.model.specs.Model.{contactCount, room, paddleOf}
 use Rattle.registers.specs.Write.{applied, changeOf}
 use Rattle.registers.specs.declared.Seen.{Seen}
 use Rattle.registers.specs.declared.Seen.the-variants as seen
@@ -36,8 +34,10 @@ use Rattle.acts.specs.declared.Effect.{Effect}
 use Rattle.post.specs.Post.{replied}
 use Rattle.post.specs.declared.Reply.{Reply}
 use Rattle.post.specs.declared.Reply.the-variants as reply
-use Rattle.switch.specs.Switch.{Plain, plain, freshPaddles, Deed, press, release, tick, receive, restart, Event, Shown, shown}
-use Rattle.switch.specs.Paddles.{Moment, moment, after, turned, turns}
+use Rattle.state.specs.Paddles.{pressedAt, releasedAt, gestureAt, freshPaddles}
+use Rattle.switch.specs.Switch.{Plain, plain, Deed, press, release, tick, receive, restart, Event, Shown, shown}
+use Rattle.turns.specs.Turns.{Moment, moment, after, turned, turns}
+use Rattle.obey.specs.Obey.{replyTo, hueOf}
 
 -- The job of an event of the wall switch.
 abbrev pub SwitchJob : Type 0
@@ -61,30 +61,6 @@ finished m paddles =
 -- An event begins, with this core: nothing is sent yet, no register and no password byte changed.
 abbrev pub begun : Plain → Core → Moment
 begun p c = moment (p .registers) c [] nothing
-
--- 01, Events and time, 2: contacts 0 and 2 are the top paddle's, 1 and 3 the bottom's.
-unfoldable pub paddleOf : ℕ → ℕ
-paddleOf contact = contact % 2
-
--- 01, Events and time, 2: contacts 0 and 1 are local, 2 and 3 slave.
-unfoldable pub kindOf : ℕ → Contact
-kindOf contact = if ltb contact 2 then Local else Slave
-
--- The paddle that a contact moves.
-abbrev pub paddleAt : ℕ → List Paddle → Paddle
-paddleAt contact paddles = getD paddles (paddleOf contact) freshPaddle
-
--- The paddles after a press edge of a contact.
-unfoldable pub pressedAt : ℕ → List Paddle → List Paddle
-pressedAt contact paddles = set paddles (paddleOf contact) (pressed (kindOf contact) (paddleAt contact paddles))
-
--- The paddles after its release edge.
-unfoldable pub releasedAt : ℕ → List Paddle → List Paddle
-releasedAt contact paddles = set paddles (paddleOf contact) (released (kindOf contact) (paddleAt contact paddles))
-
--- The gesture that a release edge completes.
-unfoldable pub gestureAt : ℕ → List Paddle → Gesture
-gestureAt contact paddles = gestureUp (kindOf contact) (paddleAt contact paddles)
 
 -- A press edge completes no gesture.
 unfoldable pub jobOfPress : ℕ → Plain → SwitchJob
@@ -110,20 +86,6 @@ woken all =
 -- A restart is answered 0; the password is kept.
 unfoldable pub jobOfRestart : Plain → SwitchJob
 jobOfRestart p = done (outcome (shown 0 [] (woken (p .registers))) (woken (p .registers))) nothing
-
--- 01, Commands, 3 (0x30): Report has a reply, no other work has one.
-unfoldable pub replyTo : Work → Reply
-replyTo work.Report = reply.Status
-replyTo work.Close = reply.Silence
-replyTo (work.Set first) = reply.Silence
-replyTo (work.Store i) = reply.Silence
-replyTo (work.Drive d) = reply.Silence
-
--- 01, Lamp, start, factory values, 1 (diagnostic): after a packet that is answered 0 the signal is red if a reply is sent, else green.
-unfoldable pub hueOf : Reply → Colour
-hueOf reply.Silence = Green
-hueOf reply.Status = Red
-hueOf (reply.Registers first count) = Red
 
 -- The state after an act that a packet asked for: what it writes, with the values that it brings, and the signal.
 unfoldable pub plainAfter : Effect → List ℕ → Colour → Plain → Plain
@@ -186,9 +148,9 @@ jobOfFrame frame.Reserved message p = unread frame.Reserved p
 unfoldable pub jobOfBytes : List ℕ → Plain → SwitchJob
 jobOfBytes bytes p = jobOfFrame (readOf bytes) (messageOf bytes) p
 
--- 01, Answer numbers, row 3: there are four contacts.
+-- 01, Answer numbers, row 3: a contact that there is not is refused.
 unfoldable pub known : ℕ → (Plain → SwitchJob) → Plain → SwitchJob
-known contact asked p = if ltb 3 contact then done (refused 3 p) nothing else asked p
+known contact asked p = if leb contactCount contact then done (refused 3 p) nothing else asked p
 
 -- 01, Events and time, 2: the job of each kind of event.
 unfoldable pub jobOfDeed : Deed → Plain → SwitchJob
@@ -198,6 +160,6 @@ jobOfDeed tick p = jobOfTick p
 jobOfDeed (receive bytes) p = jobOfBytes bytes p
 jobOfDeed restart p = jobOfRestart p
 
--- 01, Answer numbers, row 2: a buffer under 48 bytes is refused, before all other checks of an event (01, Answer numbers, 1).
+-- 01, Answer numbers, row 2: a buffer without a place for each packet is refused, before all other checks of an event (01, Answer numbers, 1).
 unfoldable pub job : Plain → Event → SwitchJob
-job p e = if ltb (e .room) 48 then done (refused 2 p) nothing else jobOfDeed (e .deed) p
+job p e = if ltb (e .room) room then done (refused 2 p) nothing else jobOfDeed (e .deed) p

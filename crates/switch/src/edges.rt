@@ -1,121 +1,111 @@
 // Press and release edges of the contacts.
 ghost use mathlib.Core.Path.{_≡_};
+ghost use mathlib.Core.List.{[]};
+ghost use Rattle.vault.specs.Job.{nothing};
+ghost use Rattle.paddle.specs.declared.Gesture.the-variants.{Release};
+ghost use Rattle.state.specs.State.{coreOf};
+ghost use Rattle.turns.specs.Turns.{moment, turned};
 ghost use Rattle.switch.specs.Switch.{press, release};
-ghost use Rattle.switch.specs.Events.{kindOf, pressedAt, releasedAt, gestureAt};
-ghost use Rattle.switch.specs.Code.{edge, refusedWith};
 ghost use Rattle.switch.specs.Respond.{Responds};
-use crate::Handed;
-use crate::Live;
-use crate::ROOM;
-use crate::Sent;
-use crate::paddles;
-use crate::show;
-use crate::signalled_on;
-use paddle::Contact;
+ghost use Rattle.switch.specs.Code.{letGo, LetsGo};
+use crate::Answer;
+use crate::shown;
+use acts::halted;
+use dimmer::Dimmer;
+use lamp::Colour;
+use model::CONTACTS;
+use model::ROOM;
+use model::paddle_of;
+use obey::signal;
 use paddle::Gesture;
-use paddle::Paddle;
+use post::outbox::Outbox;
+use post::outbox::Sent;
+use state::BYTES;
+use state::COUNTERS;
+use state::NUMBERS;
+use state::core::dimmer_of;
+use state::core::keep_dimmer;
+use state::core::mode_in;
+use state::paddles;
+use state::sized;
+use vault::Mode;
 
-// Contacts are numbered from 0: local top, local bottom, slave top, slave bottom.
-pub const CONTACTS: u8 = 4;
-
-// What an edge makes of the paddles, and the gesture that it completes.
-pub struct Edge {
-    pub paddles: [Paddle; 2],
-    pub gesture: Gesture,
-}
-
-pub fn press(live: Live, all: &mut [u8; 256], contact: u8, out: &mut [u8]) -> Handed
-    ensures { λ r. ⌜ Responds (press contact) live (now (all .entry)) (now (out .entry)) (r .answer) (r .live) (now (all .exit)) (now (out .exit)) ⌝ }
+// A press moves its paddle alone.
+pub fn press(
+    counters: &[u16; COUNTERS],
+    numbers: &[u8; NUMBERS],
+    paddles: &mut [u8; BYTES],
+    all: &[u8; 256],
+    contact: u8,
+    out: &[u8],
+) -> Answer
+    ensures { λ r. ⌜ Responds (press contact) (now (counters .entry)) (now (numbers .entry)) (now (paddles .entry)) (now (all .entry)) (now (out .entry)) r (now (counters .entry)) (now (numbers .entry)) (now (paddles .exit)) (now (all .entry)) (now (out .entry)) ⌝ }
 {
     if out.len() < ROOM {
-        return refused(live, all, 2);
+        return shown(2, Sent::none(), counters, numbers, all);
     }
     if CONTACTS <= contact {
-        return refused(live, all, 3);
+        return shown(3, Sent::none(), counters, numbers, all);
     }
-    let password = live.password;
-    let core = live.core;
-    let before = live.paddles;
-    let paddles = lower(contact, before);
-    Handed {
-        answer: show(core, all, 0, Sent::none()),
-        live: Live {
-            password,
-            core,
-            paddles,
-        },
-    }
+    paddles::press(contact, paddles);
+    shown(0, Sent::none(), counters, numbers, all)
 }
 
-pub fn release(live: Live, all: &mut [u8; 256], contact: u8, out: &mut [u8]) -> Handed
-    ensures { λ r. ⌜ Responds (release contact) live (now (all .entry)) (now (out .entry)) (r .answer) (r .live) (now (all .exit)) (now (out .exit)) ⌝ }
+// A release moves its paddle; where it ends a Hold, that is acted on and sent. The registers stay.
+pub fn release(
+    counters: &mut [u16; COUNTERS],
+    numbers: &mut [u8; NUMBERS],
+    paddles: &mut [u8; BYTES],
+    all: &[u8; 256],
+    contact: u8,
+    out: &mut [u8],
+) -> Answer
+    ensures { λ r. ⌜ Responds (release contact) (now (counters .entry)) (now (numbers .entry)) (now (paddles .entry)) (now (all .entry)) (now (out .entry)) r (now (counters .exit)) (now (numbers .exit)) (now (paddles .exit)) (now (all .entry)) (now (out .exit)) ⌝ }
 {
     if out.len() < ROOM {
-        return refused(live, all, 2);
+        return shown(2, Sent::none(), counters, numbers, all);
     }
     if CONTACTS <= contact {
-        return refused(live, all, 3);
+        return shown(3, Sent::none(), counters, numbers, all);
     }
-    let password = live.password;
-    let core = live.core;
-    let before = live.paddles;
-    let edge = lift(contact, before);
-    let gesture = edge.gesture;
-    let after = paddles::turned(core, password, contact % 2, gesture, all);
-    let note = after.note;
-    let sent = paddles::lay_note(note, out);
-    let next = signalled_on(after.core, sent);
-    let next_password = after.password;
-    let next_paddles = edge.paddles;
-    Handed {
-        answer: show(next, all, 0, sent),
-        live: Live {
-            password: next_password,
-            core: next,
-            paddles: next_paddles,
-        },
+    let gesture = paddles::release(contact, paddles);
+    if gesture.none() {
+        return shown(0, Sent::none(), counters, numbers, all);
     }
+    sized(counters, numbers);
+    let sent = let_go(paddle_of(contact) as u8, counters, numbers, all, out);
+    shown(0, sent, counters, numbers, all)
 }
 
-fn lift(contact: u8, paddles: [Paddle; 2]) -> Edge
-    ensures { λ r. ⌜ r ≡ edge (releasedAt contact paddles) (gestureAt contact paddles) ⌝ }
+// The end of a Hold: what runs is stopped by a paddle that drives the load, and the packet sent.
+fn let_go(
+    paddle: u8,
+    counters: &mut [u16; COUNTERS],
+    numbers: &mut [u8; NUMBERS],
+    all: &[u8; 256],
+    out: &mut [u8],
+) -> Sent
+    ensures { λ r. ⌜ LetsGo (turned paddle Release (moment (now (all .entry)) (coreOf (now (counters .entry)) (now (numbers .entry))) [] nothing)) (now (counters .entry)) (now (numbers .entry)) (now (out .entry)) r (now (counters .exit)) (now (numbers .exit)) (now (out .exit)) ⌝ }
 {
-    let mut next = paddles;
-    let i = (contact % 2) as usize;
-    let turn = paddles[i].release(kind(contact));
-    let lifted = turn.paddle;
-    let gesture = turn.gesture;
-    next[i] = lifted;
-    Edge {
-        paddles: next,
-        gesture,
+    let mode = mode_in(numbers);
+    let dimmer = ended(paddle, mode, dimmer_of(counters, numbers));
+    keep_dimmer(dimmer, counters, numbers);
+    let percent = dimmer.level.percent();
+    let note = post::announce(all, mode, paddle, Gesture::Release, percent);
+    let sent = Outbox::none().with(note).lay(out);
+    if sent.count == 0 {
+        return sent;
     }
+    signal(Colour::Red, counters, numbers);
+    sent
 }
 
-fn lower(contact: u8, paddles: [Paddle; 2]) -> [Paddle; 2]
-    ensures { λ r. ⌜ r ≡ pressedAt contact paddles ⌝ }
+fn ended(paddle: u8, mode: Mode, dimmer: Dimmer) -> Dimmer
+    ensures { λ r. ⌜ r ≡ letGo paddle mode dimmer ⌝ }
 {
-    let mut next = paddles;
-    let i = (contact % 2) as usize;
-    next[i] = paddles[i].press(kind(contact));
-    next
-}
-
-pub fn kind(contact: u8) -> Contact
-    ensures { λ r. ⌜ r ≡ kindOf contact ⌝ }
-{
-    if contact < 2 {
-        return Contact::Local;
-    }
-    Contact::Slave
-}
-
-pub(crate) fn refused(live: Live, all: &[u8; 256], number: u8) -> Handed
-    ensures { λ r. ⌜ r ≡ refusedWith number live (now (all .entry)) ⌝ }
-{
-    let core = live.core;
-    Handed {
-        answer: show(core, all, number, Sent::none()),
-        live,
+    match mode {
+        Mode::Normal => halted(dimmer, paddle),
+        Mode::Setup => dimmer,
+        Mode::Factory => halted(dimmer, paddle),
     }
 }

@@ -1,99 +1,101 @@
 // The start from a lent image, the restart, and the image that the owner saves.
 ghost use mathlib.Core.Path.{_≡_};
 ghost use Rattle.registers.specs.Registers.{imageOf};
+ghost use Rattle.state.specs.State.{passwordOf};
 ghost use Rattle.switch.specs.Switch.{restart};
-ghost use Rattle.switch.specs.Respond.{Responds, Starts};
-ghost use Rattle.switch.specs.Code.{Wakes, noOutcome};
+ghost use Rattle.switch.specs.Respond.{Responds, Starts, noAnswer};
+ghost use Rattle.switch.specs.Code.{Wakes};
 use crate::Answer;
-use crate::Handed;
-use crate::Live;
-use crate::ROOM;
-use crate::Sent;
-use crate::edges::refused;
 use crate::show;
+use crate::shown;
 use acts::Core;
-use dimmer::Dimmer;
 use lamp::Colour;
-use lamp::Lamp;
-use paddle::Paddle;
+use model::ROOM;
+use post::outbox::Sent;
 use registers::Taken;
 use registers::places::Counter;
 use registers::write::Write;
 use registers::write::apply;
+use state::BYTES;
+use state::COUNTERS;
+use state::NUMBERS;
+use state::core::keep;
+use state::core::password_of;
+use state::paddles;
 use units::Step;
 use vault::Mode;
 use vault::Password;
 
 // Starts a switch from a copy of the image. Where the image is not 256 bytes there is no switch: the answer's number is 1, and
-// the registers keep their bytes.
-pub fn start(image: &[u8], all: &mut [u8; 256]) -> Handed
-    ensures { λ r. ⌜ Starts (now (image .entry)) (now (all .entry)) (r .answer) (r .live) (now (all .exit)) ⌝ }
+// every array keeps what it holds. Accepted, it clears the state first, so that of a switch that stood there nothing is left.
+pub fn start(
+    image: &[u8],
+    counters: &mut [u16; COUNTERS],
+    numbers: &mut [u8; NUMBERS],
+    paddles: &mut [u8; BYTES],
+    all: &mut [u8; 256],
+) -> Answer
+    ensures { λ r. ⌜ Starts (λ a. a) (now (image .entry)) (now (counters .entry)) (now (numbers .entry)) (now (paddles .entry)) (now (all .entry)) r (now (counters .exit)) (now (numbers .exit)) (now (paddles .exit)) (now (all .exit)) ⌝ }
 {
     let taken = registers::take(image, all);
     let Taken::Apart(password) = taken else {
         return nobody(taken.number());
     };
-    wake(password, all)
+    *counters = [0; COUNTERS];
+    *numbers = [0; NUMBERS];
+    *paddles = [0; BYTES];
+    wake(password, counters, numbers, paddles, all)
 }
 
-pub fn restart(live: Live, all: &mut [u8; 256], out: &mut [u8]) -> Handed
-    ensures { λ r. ⌜ Responds restart live (now (all .entry)) (now (out .entry)) (r .answer) (r .live) (now (all .exit)) (now (out .exit)) ⌝ }
+pub fn restart(
+    counters: &mut [u16; COUNTERS],
+    numbers: &mut [u8; NUMBERS],
+    paddles: &mut [u8; BYTES],
+    all: &mut [u8; 256],
+    out: &[u8],
+) -> Answer
+    ensures { λ r. ⌜ Responds restart (now (counters .entry)) (now (numbers .entry)) (now (paddles .entry)) (now (all .entry)) (now (out .entry)) r (now (counters .exit)) (now (numbers .exit)) (now (paddles .exit)) (now (all .exit)) (now (out .entry)) ⌝ }
 {
     if out.len() < ROOM {
-        return refused(live, all, 2);
+        return shown(2, Sent::none(), counters, numbers, all);
     }
-    wake(live.password, all)
+    wake(password_of(numbers), counters, numbers, paddles, all)
 }
 
 // The 256 registers with the password among them.
-pub fn image(live: Live, all: &[u8; 256], out: &mut [u8; 256])
-    ensures { λ r. ⌜ now (out .exit) ≡ imageOf (now (all .entry)) (live .password) ⌝ }
+pub fn image(numbers: &[u8; NUMBERS], all: &[u8; 256], out: &mut [u8; 256])
+    ensures { λ r. ⌜ now (out .exit) ≡ imageOf (now (all .entry)) (passwordOf (now (numbers .entry))) ⌝ }
 {
-    registers::image(all, live.password, out)
+    registers::image(all, password_of(numbers), out)
 }
 
 // What start and restart share: one more in 0xFC, and everything but the registers and the password anew.
-fn wake(password: Password, all: &mut [u8; 256]) -> Handed
-    ensures { λ r. ⌜ Wakes password (now (all .entry)) (r .answer) (r .live) (now (all .exit)) ⌝ }
+fn wake(
+    password: Password,
+    counters: &mut [u16; COUNTERS],
+    numbers: &mut [u8; NUMBERS],
+    paddles: &mut [u8; BYTES],
+    all: &mut [u8; 256],
+) -> Answer
+    ensures { λ r. ⌜ Wakes password (now (counters .entry)) (now (numbers .entry)) (now (paddles .entry)) (now (all .entry)) r (now (counters .exit)) (now (numbers .exit)) (now (paddles .exit)) (now (all .exit)) ⌝ }
 {
     apply(Write::Count(Counter::Restarts), b"", all);
     let core = Core::started(all);
-    let answer = show(core, all, 0, Sent::none());
-    let paddles = [Paddle::up(), Paddle::up()];
-    Handed {
-        answer,
-        live: Live {
-            password,
-            core,
-            paddles,
-        },
-    }
+    keep(core, password, counters, numbers);
+    paddles::raise(paddles);
+    show(0, Sent::none(), core, all)
 }
 
-// What stands in the place of a switch that was not started.
-fn nobody(number: u8) -> Handed
-    ensures { λ r. ⌜ r ≡ noOutcome number ⌝ }
+// What is answered where no switch was started.
+fn nobody(number: u8) -> Answer
+    ensures { λ r. ⌜ r ≡ noAnswer number ⌝ }
 {
-    let paddles = [Paddle::up(), Paddle::up()];
-    let core = Core {
+    Answer {
+        sent: Sent::none(),
+        number,
+        level: Step::OFF,
+        output: Step::OFF,
+        colour: Colour::Black,
         mode: Mode::Normal,
-        dimmer: Dimmer::fresh(Step::OFF),
-        lamp: Lamp::fresh(),
-        save: 0,
-    };
-    Handed {
-        answer: Answer {
-            number,
-            sent: Sent::none(),
-            level: Step::OFF,
-            output: Step::OFF,
-            colour: Colour::Black,
-            mode: Mode::Normal,
-        },
-        live: Live {
-            password: Password(0, 0),
-            core,
-            paddles,
-        },
     }
 }

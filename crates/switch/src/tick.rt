@@ -1,92 +1,149 @@
 // One tick, 1/240 second.
 ghost use mathlib.Core.Path.{_≡_};
-ghost use Prim.Native.Nat.{_≤_};
 ghost use lib.ListN.{length};
+ghost use Rattle.post.specs.Code.{packetsIn};
+ghost use Rattle.state.specs.State.{coreOf, passwordOf};
+ghost use Rattle.state.specs.Code.{CoreKept};
 ghost use Rattle.switch.specs.Switch.{tick};
-ghost use Rattle.switch.specs.Code.{passed};
 ghost use Rattle.switch.specs.Respond.{Responds};
+ghost use Rattle.switch.specs.Code.{passedCore, signalledOn, Finishes, Moves, Ticks};
 use crate::Answer;
-use crate::Handed;
-use crate::Live;
-use crate::ROOM;
-use crate::Sent;
-use crate::edges::refused;
-use crate::paddles;
 use crate::show;
-use crate::signalled_on;
+use crate::shown;
 use acts::Core;
-use registers::write;
+use lamp::Colour;
+use model::ROOM;
+use post::outbox::Outbox;
+use post::outbox::Sent;
+use registers::write::apply;
+use state::BYTES;
+use state::COUNTERS;
+use state::NUMBERS;
+use state::core::core_of;
+use state::core::dimmer_of;
+use state::core::idle;
+use state::core::keep;
+use state::core::keep_dimmer;
+use state::core::keep_left;
+use state::core::keep_save;
+use state::core::keep_timers;
+use state::core::lamp_of;
+use state::core::left_in;
+use state::core::password_of;
+use state::core::save_in;
+use state::paddles;
+use state::sized;
+use turns::turns;
+use vault::Password;
 
-// What is shown of a tick that completes no gesture, and the core after it.
-struct Passed {
-    pub answer: Answer,
-    pub core: Core,
-}
-
-// The stages of a tick: lamp with output, dimmer, the paddles from the top one on, the save. Most ticks complete no gesture,
-// and go the quick way.
-pub fn tick(live: Live, all: &mut [u8; 256], out: &mut [u8]) -> Handed
-    ensures { λ r. ⌜ Responds tick live (now (all .entry)) (now (out .entry)) (r .answer) (r .live) (now (all .exit)) (now (out .exit)) ⌝ }
+// The stages of a tick: lamp with output, dimmer, the paddles in their order, the save. Most ticks complete no gesture and save
+// nothing: they run their timers, and a motion. (The answer of `turn` goes by a local: returned as it comes, it would be written in
+// bytes and read back in one piece.)
+pub fn tick(
+    counters: &mut [u16; COUNTERS],
+    numbers: &mut [u8; NUMBERS],
+    paddles: &mut [u8; BYTES],
+    all: &mut [u8; 256],
+    out: &mut [u8],
+) -> Answer
+    ensures { λ r. ⌜ Responds tick (now (counters .entry)) (now (numbers .entry)) (now (paddles .entry)) (now (all .entry)) (now (out .entry)) r (now (counters .exit)) (now (numbers .exit)) (now (paddles .exit)) (now (all .exit)) (now (out .exit)) ⌝ }
 {
     if out.len() < ROOM {
-        return refused(live, all, 2);
+        return shown(2, Sent::none(), counters, numbers, all);
     }
-    let password = live.password;
-    let core = live.core;
-    let before = live.paddles;
-    let recognised = paddles::recognise(before);
-    let paddles = recognised.paddles;
-    if recognised.quiet & (0 < core.save) {
-        let passed = pass(core, all);
-        let answer = passed.answer;
-        let next = passed.core;
-        return Handed {
-            answer,
-            live: Live {
-                password,
-                core: next,
-                paddles,
-            },
-        };
+    if save_in(counters) == 0 {
+        let answer = turn(counters, numbers, paddles, all, out);
+        return answer;
     }
-    turn(live, all, out)
+    if !paddles::quiet(paddles) {
+        let answer = turn(counters, numbers, paddles, all, out);
+        return answer;
+    }
+    sized(counters, numbers);
+    paddles::run(paddles);
+    pass(counters, numbers);
+    shown(0, Sent::none(), counters, numbers, all)
 }
 
-// A tick that completes no gesture and saves nothing.
-fn pass(core: Core, all: &[u8; 256]) -> Passed
-    ensures { λ r. ⌜ r ≡ passed (now (all .entry)) core ⌝ }
+// The core's part of a tick that completes no gesture and saves nothing.
+fn pass(counters: &mut [u16; COUNTERS], numbers: &mut [u8; NUMBERS])
+    ensures { λ r. ⌜ CoreKept (passedCore (coreOf (now (counters .entry)) (now (numbers .entry)))) (passwordOf (now (numbers .entry))) (now (counters .entry)) (now (numbers .entry)) (now (counters .exit)) (now (numbers .exit)) ⌝ }
 {
-    let mut next = core.aged();
-    next.save = timers::run(core.save);
-    Passed {
-        answer: show(next, all, 0, Sent::none()),
-        core: next,
+    move_on(counters, numbers);
+    let save = timers::run(save_in(counters));
+    let lamp = lamp_of(counters, numbers).tick();
+    keep_save(save, counters);
+    keep_timers(lamp, counters);
+}
+
+// Between two beats of a motion its metronome runs, and nothing else.
+fn move_on(counters: &mut [u16; COUNTERS], numbers: &mut [u8; NUMBERS])
+    ensures { λ r. ⌜ Moves (now (counters .entry)) (now (numbers .entry)) (now (counters .exit)) (now (numbers .exit)) ⌝ }
+{
+    if idle(numbers) {
+        return;
     }
+    let left = left_in(counters);
+    if left == 0 {
+        let dimmer = dimmer_of(counters, numbers).tick();
+        keep_dimmer(dimmer, counters, numbers);
+        return;
+    }
+    keep_left(timers::run(left), counters);
 }
 
 // A tick with all its stages: paddles may act and send, the level may be saved.
-fn turn(live: Live, all: &mut [u8; 256], out: &mut [u8]) -> Handed
-    requires { ⌜ 48 ≤ length (now out) ⌝ }
-    ensures { λ r. ⌜ Responds tick live (now (all .entry)) (now (out .entry)) (r .answer) (r .live) (now (all .exit)) (now (out .exit)) ⌝ }
+fn turn(
+    counters: &mut [u16; COUNTERS],
+    numbers: &mut [u8; NUMBERS],
+    paddles: &mut [u8; BYTES],
+    all: &mut [u8; 256],
+    out: &mut [u8],
+) -> Answer
+    ensures { λ r. ⌜ Ticks (now (counters .entry)) (now (numbers .entry)) (now (paddles .entry)) (now (all .entry)) (now (out .entry)) r (now (counters .exit)) (now (numbers .exit)) (now (paddles .exit)) (now (all .exit)) (now (out .exit)) ⌝ }
 {
-    let password = live.password;
-    let core = live.core;
-    let before = live.paddles;
-    let after = paddles::turns(core.aged(), password, before, all);
-    let notes = after.notes;
+    let gestures = paddles::tick(paddles);
+    let core = core_of(counters, numbers).aged();
+    let after = turns(core, password_of(numbers), gestures, all);
     let effect = after.core.saved();
     let write = effect.write;
-    write::apply(write, b"", all);
-    let sent = paddles::lay_notes(notes, out);
-    let next = signalled_on(effect.core, sent);
-    let next_password = after.password;
-    let next_paddles = after.paddles;
-    Handed {
-        answer: show(next, all, 0, sent),
-        live: Live {
-            password: next_password,
-            core: next,
-            paddles: next_paddles,
-        },
+    apply(write, b"", all);
+    let next = effect.core;
+    finish(
+        next,
+        after.password,
+        after.outbox,
+        counters,
+        numbers,
+        all,
+        out,
+    )
+}
+
+// The end of such a tick: what is to be sent is laid and signalled, and the core is kept and shown.
+fn finish(
+    core: Core,
+    password: Password,
+    outbox: Outbox,
+    counters: &mut [u16; COUNTERS],
+    numbers: &mut [u8; NUMBERS],
+    all: &[u8; 256],
+    out: &mut [u8],
+) -> Answer
+    ensures { λ r. ⌜ Finishes core password (packetsIn outbox) (now (counters .entry)) (now (numbers .entry)) (now (all .entry)) (now (out .entry)) r (now (counters .exit)) (now (numbers .exit)) (now (out .exit)) ⌝ }
+{
+    let sent = outbox.lay(out);
+    let next = signalled_on(core, sent.count);
+    keep(next, password, counters, numbers);
+    show(0, sent, next, all)
+}
+
+// A tick that sends begins the red signal, and no other.
+fn signalled_on(core: Core, count: u8) -> Core
+    ensures { λ r. ⌜ r ≡ signalledOn count core ⌝ }
+{
+    if count == 0 {
+        return core;
     }
+    core.signalled(Colour::Red)
 }

@@ -13,6 +13,16 @@ pub fn run(left: u16) -> u16
     left - 1
 }
 
+// The same in a byte, as a paddle's timers are.
+pub fn run_byte(left: u8) -> u8
+    ensures { λ r. ⌜ r ≡ less left ⌝ }
+{
+    if left == 0 {
+        return 0;
+    }
+    left - 1
+}
+
 // A metronome one tick later.
 pub fn turn(period: u16, left: u16) -> u16
     ensures { λ r. ⌜ r ≡ metronome period left ⌝ }

@@ -89,7 +89,7 @@ impl Pair {
             reference,
             left: vec![0; MOST_ROOM],
             right: vec![0; MOST_ROOM],
-            room: 48,
+            room: melszondru::ROOM,
             fill: Random::new(seed),
         })
     }
@@ -126,31 +126,31 @@ impl Pair {
     }
 }
 
-fn numbers(answer: &melszondru::Answer) -> [u8; 8] {
-    let [first, second] = answer.lengths();
-    [
+/// An answer's numbers, and the lengths of its packets.
+type Told = ([u8; 6], [usize; melszondru::PADDLES]);
+
+fn numbers(answer: &melszondru::Answer) -> Told {
+    let numbers = [
         answer.number(),
         answer.count() as u8,
-        first as u8,
-        second as u8,
         answer.level(),
         answer.output(),
         answer.colour().into(),
         answer.mode().into(),
-    ]
+    ];
+    (numbers, answer.lengths())
 }
 
-fn others(answer: &reference::Answer) -> [u8; 8] {
-    [
+fn others(answer: &reference::Answer) -> Told {
+    let numbers = [
         answer.number,
         answer.count,
-        answer.lengths[0],
-        answer.lengths[1],
         answer.level,
         answer.output,
         answer.colour as u8,
         answer.mode as u8,
-    ]
+    ];
+    (numbers, answer.lengths.map(usize::from))
 }
 
 fn same<T: PartialEq + std::fmt::Debug + ?Sized>(

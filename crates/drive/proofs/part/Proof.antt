@@ -6,10 +6,10 @@ use Rattle.drive.proofs.part.Statement.{statement}
 use Rattle.drive.proofs.part.Tie as tie
 
 abbrev Inv-loop : tie.InvT-loop
-Inv-loop input count line₀ all₀ buffer₀ page₀ text next₀ i₀ line all buffer page next i = Unit {0}
+Inv-loop input count line₀ counters₀ numbers₀ paddles₀ all₀ buffer₀ page₀ text next₀ i₀ line counters numbers paddles all buffer page next i = Unit {0}
 
 abbrev μ-loop : tie.MeasureT-loop
-μ-loop input count line₀ all₀ buffer₀ page₀ text next₀ i₀ line all buffer page next i = length text - i
+μ-loop input count line₀ counters₀ numbers₀ paddles₀ all₀ buffer₀ page₀ text next₀ i₀ line counters numbers paddles all buffer page next i = length text - i
 
 front-requires : tie.Need-front-requires Inv-loop μ-loop
 front-requires c κs = search needs

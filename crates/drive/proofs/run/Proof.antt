@@ -4,10 +4,10 @@ use Rattle.drive.proofs.run.Statement.{statement}
 use Rattle.drive.proofs.run.Tie as tie
 
 abbrev Inv-loop : tie.InvT-loop
-Inv-loop fd name input₀ line₀ all₀ buffer₀ page₀ script₀ turns₀ input line all buffer page script turns = Unit {0}
+Inv-loop fd name input₀ line₀ counters₀ numbers₀ paddles₀ all₀ buffer₀ page₀ script₀ turns₀ input line counters numbers paddles all buffer page script turns = Unit {0}
 
 abbrev μ-loop : tie.MeasureT-loop
-μ-loop fd name input₀ line₀ all₀ buffer₀ page₀ script₀ turns₀ input line all buffer page script turns = turns
+μ-loop fd name input₀ line₀ counters₀ numbers₀ paddles₀ all₀ buffer₀ page₀ script₀ turns₀ input line counters numbers paddles all buffer page script turns = turns
 
 empty-requires : tie.Need-empty-requires Inv-loop μ-loop
 empty-requires c κs = search needs

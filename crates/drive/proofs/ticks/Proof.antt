@@ -4,10 +4,10 @@ use Rattle.drive.proofs.ticks.Statement.{statement}
 use Rattle.drive.proofs.ticks.Tie as tie
 
 abbrev Inv-loop : tie.InvT-loop
-Inv-loop count all₀ buffer₀ page₀ last₀ row₀ ticking₀ left₀ all buffer page last row ticking left = Unit {0}
+Inv-loop count counters₀ numbers₀ paddles₀ all₀ buffer₀ page₀ last₀ row₀ ticking₀ left₀ counters numbers paddles all buffer page last row ticking left = Unit {0}
 
 abbrev μ-loop : tie.MeasureT-loop
-μ-loop count all₀ buffer₀ page₀ last₀ row₀ ticking₀ left₀ all buffer page last row ticking left = left
+μ-loop count counters₀ numbers₀ paddles₀ all₀ buffer₀ page₀ last₀ row₀ ticking₀ left₀ counters numbers paddles all buffer page last row ticking left = left
 
 loop-holds : tie.Need-loop-holds Inv-loop μ-loop
 loop-holds c = tt

@@ -1,6 +1,5 @@
--- `judge` meets its contract: at each return the checks that were passed, and the one that failed.
-use mathlib.Core.Path.{_∙_, sym}
 use borrow.Author.Needs.{needs}
+use mathlib.Core.Path.{_∙_, sym}
 use Rattle.judge.specs.Judge.{judged}
 use Rattle.judge.proofs.judge.Statement.{statement}
 use Rattle.judge.proofs.judge.Tie as tie
@@ -30,111 +29,24 @@ argument-requires c κs = search needs
 verb-of-requires : tie.Need-verb-of-requires
 verb-of-requires c κs = search needs
 
-listed-requires : tie.Need-listed-requires
-listed-requires c κs = search needs
+commanded-requires : tie.Need-commanded-requires
+commanded-requires c κs = search needs
 
 returns-3 : tie.Need-returns-3
 unfolding judged
 returns-3 c =
-    let ten = c .before .before .before .before in
+    let verb = c .before in
+    let ten = verb .before .before in
     let nine = ten .before .before .before in
-    rw (
-      ← nine .before .heard .ensures,
-      nine .if1 .left,
-      ← ten .before .before .target-of .ensures,
-      ← ten .before .reached .ensures,
-      ten .if2 .left,
-      ← c .before .before .before .argument .ensures,
-      ← c .before .before .verb-of .ensures,
-      ← c .before .listed .ensures,
-      c .if3 .taken,
-    )
-
-suits-requires : tie.Need-suits-requires
-suits-requires c κs = search needs
-
-returns-4 : tie.Need-returns-4
-unfolding judged
-returns-4 c =
-    let eleven = c .before .before in
-    let ten = eleven .before .before .before .before in
-    let nine = ten .before .before .before in
-    rw (
-      ← nine .before .heard .ensures,
-      nine .if1 .left,
-      ← ten .before .before .target-of .ensures,
-      ← ten .before .reached .ensures,
-      ten .if2 .left,
-      ← eleven .before .before .before .argument .ensures,
-      ← eleven .before .before .verb-of .ensures,
-      ← eleven .before .listed .ensures,
-      eleven .if3 .left,
-      ← c .before .suits .ensures,
-      c .if4 .taken,
-    )
-
-dimming-requires : tie.Need-dimming-requires
-dimming-requires c κs = search needs
-
-of-requires : tie.Need-of-requires
-of-requires c κs = search needs
-
-permitted-requires : tie.Need-permitted-requires
-permitted-requires c κs = search needs
-
-returns-5 : tie.Need-returns-5
-unfolding judged
-returns-5 c =
-    let twelve = c .before .before .before .before in
-    let eleven = twelve .before .before in
-    let ten = eleven .before .before .before .before in
-    let nine = ten .before .before .before in
-    rw (
-      ← nine .before .heard .ensures,
-      nine .if1 .left,
-      ← ten .before .before .target-of .ensures,
-      ← ten .before .reached .ensures,
-      ten .if2 .left,
-      ← eleven .before .before .before .argument .ensures,
-      ← eleven .before .before .verb-of .ensures,
-      ← eleven .before .listed .ensures,
-      eleven .if3 .left,
-      ← twelve .before .suits .ensures,
-      twelve .if4 .left,
-      ← c .before .before .before .dimming .ensures,
-      ← c .before .before .of .ensures,
-      ← c .before .permitted .ensures,
-      c .if5 .taken,
-    )
-
-ordered-requires : tie.Need-ordered-requires
-ordered-requires c κs = search needs
-
-returns-6 : tie.Need-returns-6
-unfolding judged
-returns-6 c =
-    let thirteen = c .before in
-    let twelve = thirteen .before .before .before .before in
-    let eleven = twelve .before .before in
-    let ten = eleven .before .before .before .before in
-    let nine = ten .before .before .before in
-    c .ordered .ensures
+    c .commanded .ensures
     ∙ sym (rw (
       ← nine .before .heard .ensures,
       nine .if1 .left,
       ← ten .before .before .target-of .ensures,
       ← ten .before .reached .ensures,
       ten .if2 .left,
-      ← eleven .before .before .before .argument .ensures,
-      ← eleven .before .before .verb-of .ensures,
-      ← eleven .before .listed .ensures,
-      eleven .if3 .left,
-      ← twelve .before .suits .ensures,
-      twelve .if4 .left,
-      ← thirteen .before .before .before .dimming .ensures,
-      ← thirteen .before .before .of .ensures,
-      ← thirteen .before .permitted .ensures,
-      thirteen .if5 .left,
+      ← verb .before .argument .ensures,
+      ← verb .verb-of .ensures,
     ))
 
 pub judge-spec : {M : Type 1} → statement M
@@ -148,13 +60,5 @@ judge-spec =
     returns-2
     argument-requires
     verb-of-requires
-    listed-requires
-    returns-3
-    suits-requires
-    returns-4
-    dimming-requires
-    of-requires
-    permitted-requires
-    returns-5
-    ordered-requires
-    returns-6)
+    commanded-requires
+    returns-3)

@@ -1,5 +1,5 @@
 use borrow.Author.Needs.{needs}
-use Rattle.words.proofs.Laws.{tests}
+use mathlib.Core.Path.{refl}
 use Rattle.switch.specs.Switch.{answerWith}
 use Rattle.switch.proofs.show.Statement.{statement}
 use Rattle.switch.proofs.show.Tie as tie
@@ -18,7 +18,7 @@ colour-requires c κs = search needs
 
 returns : tie.Need-returns
 unfolding answerWith
-returns c = search (tests, c .colour .ensures, c .before .output .ensures, c .before .before .light .ensures, c .before .before .before .digit .ensures)
+returns c = simp (c .colour .ensures, c .before .output .ensures, c .before .before .light .ensures, c .before .before .before .digit .ensures)
 
 pub show-spec : {M : Type 1} → statement M
 show-spec =

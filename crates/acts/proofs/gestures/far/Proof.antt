@@ -1,15 +1,18 @@
-use Rattle.words.proofs.Laws.{tests}
+use borrow.Author.Needs.{needs}
 use Rattle.acts.specs.Gestures.{far}
 use Rattle.acts.proofs.gestures.far.Statement.{statement}
 use Rattle.acts.proofs.gestures.far.Tie as tie
 
+top-requires : tie.Need-top-requires
+top-requires c κs = search needs
+
 returns : tie.Need-returns
 unfolding far
-returns c = search tests
+returns c = simp (← c .before .top .ensures, c .if1 .taken)
 
 returns-2 : tie.Need-returns-2
 unfolding far
-returns-2 c = search tests
+returns-2 c = simp (← c .before .top .ensures, c .if1 .left)
 
 pub far-spec : {M : Type 1} → statement M
-far-spec = tie.close (tie.spec returns returns-2)
+far-spec = tie.close (tie.spec top-requires returns returns-2)

@@ -16,9 +16,9 @@ same-length c = search needs
 returns : tie.Need-returns
 returns c =
     let wrote = c .before .before .before in
-    let start = wrote .before .before .before .before in
-    let a = start .before .before .before .before .args in
-    begins _ (a .desk) _ _ _ _ _ _ (start .start .ensures) (wrote .started .ensures)
+    let start = wrote .before .before in
+    let a = start .before .before .before .before .before .before .before .args in
+    begins _ (a .desk) _ _ _ _ _ _ _ _ _ _ _ (start .start .ensures) (wrote .started .ensures)
 
 pub begin-spec : {M : Type 1} → statement M
 begin-spec = tie.close (tie.spec start-requires started-requires same-length returns)

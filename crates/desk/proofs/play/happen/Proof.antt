@@ -43,45 +43,45 @@ same-length c = search needs
 
 returns : tie.Need-returns
 returns c =
-    let fill = c .before .before .before .before .before .before .before .before .before .before in
+    let fill = c .before .before .before .before .before .before .before .before .before .before .before in
     let a = fill .before .before .before .before .args in
-    happens _ _ (now (a .packet)) _ _ _ _ (now (a .out)) _ _ _ (c .before .before .before .before .before .before .event .given .1) (fill .fill .ensures) (c .before .before .press .ensures)
+    happens _ _ (now (a .packet)) _ _ _ _ _ _ _ _ (now (a .out)) _ _ _ (c .before .before .before .before .before .before .before .event .given .1) (fill .fill .ensures) (c .press .ensures)
 
 same-length-2 : tie.Need-same-length-2
 same-length-2 c = search needs
 
 returns-2 : tie.Need-returns-2
 returns-2 c =
-    let fill = c .before .before .before .before .before .before .before .before .before .before in
+    let fill = c .before .before .before .before .before .before .before .before .before .before .before .before .before in
     let a = fill .before .before .before .before .args in
-    happens _ _ (now (a .packet)) _ _ _ _ (now (a .out)) _ _ _ (c .before .before .before .before .before .before .event2 .given .1) (fill .fill .ensures) (c .before .before .release .ensures)
+    happens _ _ (now (a .packet)) _ _ _ _ _ _ _ _ (now (a .out)) _ _ _ (c .before .before .before .before .before .before .before .before .before .event2 .given .1) (fill .fill .ensures) (c .before .before .release .ensures)
 
 same-length-3 : tie.Need-same-length-3
 same-length-3 c = search needs
 
 returns-3 : tie.Need-returns-3
 returns-3 c =
-    let fill = c .before .before .before .before .before .before .before .before .before in
+    let fill = c .before .before .before .before .before .before .before .before .before .before .before .before in
     let a = fill .before .before .before .before .args in
-    happens _ _ (now (a .packet)) _ _ _ _ (now (a .out)) _ _ _ (c .before .before .before .before .before .enum-told .given .1) (fill .fill .ensures) (c .before .before .tick .ensures)
+    happens _ _ (now (a .packet)) _ _ _ _ _ _ _ _ (now (a .out)) _ _ _ (c .before .before .before .before .before .before .before .before .enum-told .given .1) (fill .fill .ensures) (c .before .before .tick .ensures)
 
 same-length-4 : tie.Need-same-length-4
 same-length-4 c = search needs
 
 returns-4 : tie.Need-returns-4
 returns-4 c =
-    let fill = c .before .before .before .before .before .before .before .before .before in
+    let fill = c .before .before .before .before .before .before .before .before .before .before .before in
     let a = fill .before .before .before .before .args in
-    happens _ _ (now (a .packet)) _ _ _ _ (now (a .out)) _ _ _ (c .before .before .before .before .before .enum-told2 .given .1) (fill .fill .ensures) (c .before .before .receive .ensures)
+    happens _ _ (now (a .packet)) _ _ _ _ _ _ _ _ (now (a .out)) _ _ _ (c .before .before .before .before .before .before .before .enum-told2 .given .1) (fill .fill .ensures) (c .before .before .receive .ensures (now (a .paddles)))
 
 same-length-5 : tie.Need-same-length-5
 same-length-5 c = search needs
 
 returns-5 : tie.Need-returns-5
 returns-5 c =
-    let fill = c .before .before .before .before .before .before .before .before .before in
+    let fill = c .before .before .before .before .before .before .before .before .before .before in
     let a = fill .before .before .before .before .args in
-    happens _ _ (now (a .packet)) _ _ _ _ (now (a .out)) _ _ _ (c .before .before .before .before .before .enum-told3 .given .1) (fill .fill .ensures) (c .before .before .restart .ensures)
+    happens _ _ (now (a .packet)) _ _ _ _ _ _ _ _ (now (a .out)) _ _ _ (c .before .before .before .before .before .before .enum-told3 .given .1) (fill .fill .ensures) (c .restart .ensures)
 
 pub happen-spec : {M : Type 1} → statement M
 happen-spec =

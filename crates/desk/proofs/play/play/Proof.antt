@@ -97,7 +97,7 @@ same-length-2 c = search needs
 
 returns-3 : tie.Need-returns-3
 unfolding played
-returns-3 c = rw (c .before .before .before .before .before .before .before .line .given .1, ← c .before .before .before .before .before .front .ensures) (c .before .before .begin .ensures _)
+returns-3 c = rw (c .before .before .before .before .before .before .before .before .before .before .line .given .1, ← c .before .before .before .before .before .before .before .before .front .ensures) (c .before .before .begin .ensures _)
 
 returns-4 : tie.Need-returns-4
 unfolding played puts
@@ -111,7 +111,7 @@ same-length-4 c = search needs
 
 returns-5 : tie.Need-returns-5
 unfolding played
-returns-5 c = rw (c .before .before .before .before .before .before .before .before .before .before .line3 .given .1) (c .before .before .before .before .tell .ensures)
+returns-5 c = rw (c .before .before .before .before .before .before .before .before .before .before .before .before .before .line3 .given .1) (c .before .before .before .before .tell .ensures)
 
 same-length-5 : tie.Need-same-length-5
 same-length-5 c = search needs
@@ -121,7 +121,7 @@ same-length-6 c = search needs
 
 returns-6 : tie.Need-returns-6
 unfolding played
-returns-6 c = rw (c .before .before .before .before .before .before .before .before .before .before .line4 .given .1) (c .before .before .before .before .tell2 .ensures)
+returns-6 c = rw (c .before .before .before .before .before .before .before .before .before .before .before .before .before .line4 .given .1) (c .before .before .before .before .tell2 .ensures)
 
 same-length-7 : tie.Need-same-length-7
 same-length-7 c = search needs
@@ -138,7 +138,7 @@ same-length-9 c = search needs
 
 returns-8 : tie.Need-returns-8
 unfolding played
-returns-8 c = rw (c .before .before .before .before .before .before .before .before .before .before .line6 .given .1, ← c .before .before .before .before .before .before .before .before .front2 .ensures) (c .before .before .before .before .tell3 .ensures)
+returns-8 c = rw (c .before .before .before .before .before .before .before .before .before .before .before .before .before .line6 .given .1, ← c .before .before .before .before .before .before .before .before .before .before .before .front2 .ensures) (c .before .before .before .before .tell3 .ensures)
 
 same-length-10 : tie.Need-same-length-10
 same-length-10 c = search needs
@@ -148,14 +148,14 @@ same-length-11 c = search needs
 
 returns-9 : tie.Need-returns-9
 unfolding played
-returns-9 c = rw (c .before .before .before .before .before .before .before .before .before .enum-told3 .given .1) (c .before .before .before .before .tell4 .ensures)
+returns-9 c = rw (c .before .before .before .before .before .before .before .before .before .before .before .before .enum-told3 .given .1) (c .before .before .before .before .tell4 .ensures)
 
 same-length-12 : tie.Need-same-length-12
 same-length-12 c = search needs
 
 returns-10 : tie.Need-returns-10
 unfolding played
-returns-10 c = rw (c .before .before .before .before .before .enum-told4 .given .1) (record { after = refl; written = c .before .before .show .ensures })
+returns-10 c = rw (c .before .before .before .before .before .before .enum-told4 .given .1) (record { after = refl; written = c .before .before .show .ensures })
 
 pub play-spec : {M : Type 1} → statement M
 play-spec =

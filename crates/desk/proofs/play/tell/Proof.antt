@@ -22,7 +22,7 @@ returns c =
     let wrote = c .before .before in
     let tested = wrote .before .before in
     let a = tested .before .before .before .before .before .before .args in
-    rw (← tested .before .before .letter .ensures) (absent _ _ (a .desk) (now (a .all)) (now (a .buffer)) _ _ (tested .if1 .taken) (wrote .none .ensures))
+    rw (← tested .before .before .letter .ensures) (absent _ _ (a .desk) _ _ _ _ (now (a .buffer)) _ _ (tested .if1 .taken) (wrote .none .ensures))
 
 least-requires : tie.Need-least-requires
 least-requires c κs = search needs
@@ -31,7 +31,7 @@ slice-relend-prefix-happen : tie.Need-slice-relend-prefix-happen
 slice-relend-prefix-happen c = search needs
 
 slice-aggregate-happen : tie.Need-slice-aggregate-happen
-slice-aggregate-happen c = simp length-take (omega (arith, c .before .before .least .ensures))
+slice-aggregate-happen c = simp length-take (omega (arith, c .before .before .before .before .before .least .ensures))
 
 happen-requires : tie.Need-happen-requires
 happen-requires c κs = search needs
@@ -42,15 +42,12 @@ slice-reshare-prefix-answered c = search needs
 slice-aggregate-answered : tie.Need-slice-aggregate-answered
 slice-aggregate-answered c =
     let happen = c .before .before .before .before in
-    let least = happen .before .before .before in
+    let least = happen .before .before .before .before .before .before in
     let a = least .before .before .before .before .before .before .before .args in
-    simp (length-take, length-append) (omega (arith, still-lent _ (a .desk) _ _ (now (a .buffer)) _ _ _ _ (least .least .ensures) (happen .happen .ensures)))
+    simp (length-take, length-append) (omega (arith, still-lent _ (a .desk) _ _ _ _ (now (a .buffer)) _ _ _ _ _ _ _ (least .least .ensures) (happen .happen .ensures)))
 
 answered-requires : tie.Need-answered-requires
 answered-requires c κs = search needs
-
-with-live-requires : tie.Need-with-live-requires
-with-live-requires c κs = search needs
 
 same-length-2 : tie.Need-same-length-2
 same-length-2 c = search needs
@@ -60,14 +57,14 @@ same-length-3 c = search needs
 
 returns-2 : tie.Need-returns-2
 returns-2 c =
-    let wrote = c .before .before .before in
+    let wrote = c .before .before in
     let happen = wrote .before .before .before .before .before in
-    let least = happen .before .before .before in
+    let least = happen .before .before .before .before .before .before in
     let letter = least .before .before .before in
     let a = letter .before .before .before .before .args in
-    rw (c .with-live .ensures, ← letter .letter .ensures)
-    (present _ _ (a .desk) _ (now (a .buffer)) _ _ _ _ _ (least .before .if1 .left)
-    (plays _ (a .desk) _ _ (now (a .buffer)) _ _ _ _ (answered _) _ _ (least .least .ensures) (happen .happen .ensures) (wrote .answered .ensures)))
+    rw (← letter .letter .ensures)
+    (present _ _ (a .desk) _ _ _ _ (now (a .buffer)) _ _ _ _ _ _ _ (least .before .if1 .left)
+    (plays _ (a .desk) _ _ _ _ (now (a .buffer)) _ _ _ _ _ _ _ (answered _) _ _ (least .least .ensures) (happen .happen .ensures) (wrote .answered .ensures)))
 
 pub tell-spec : {M : Type 1} → statement M
 tell-spec =
@@ -84,7 +81,6 @@ tell-spec =
     slice-reshare-prefix-answered
     slice-aggregate-answered
     answered-requires
-    with-live-requires
     same-length-2
     same-length-3
     returns-2)

@@ -18,7 +18,7 @@ slice-relend-prefix-happen : tie.Need-slice-relend-prefix-happen
 slice-relend-prefix-happen c = search needs
 
 slice-aggregate-happen-2 : tie.Need-slice-aggregate-happen-2
-slice-aggregate-happen-2 c = simp length-take (omega (arith, c .before .before .before .least .ensures))
+slice-aggregate-happen-2 c = simp length-take (omega (arith, c .before .before .before .before .before .before .least .ensures))
 
 happen-requires : tie.Need-happen-requires
 happen-requires c κs = search needs
@@ -29,15 +29,12 @@ slice-reshare-prefix-row c = search needs
 slice-aggregate-row : tie.Need-slice-aggregate-row
 slice-aggregate-row c =
     let happen = c .before .before .before .before in
-    let least = happen .before .before .before .before in
+    let least = happen .before .before .before .before .before .before .before in
     let a = least .before .before .before .args in
-    simp (length-take, length-append) (omega (arith, still-lent _ (a .desk) _ _ (now (a .buffer)) _ _ _ _ (least .least .ensures) (happen .happen .ensures)))
+    simp (length-take, length-append) (omega (arith, still-lent _ (a .desk) _ _ _ _ (now (a .buffer)) _ _ _ _ _ _ _ (least .least .ensures) (happen .happen .ensures)))
 
 row-requires : tie.Need-row-requires
 row-requires c κs = search needs
-
-with-live-requires : tie.Need-with-live-requires
-with-live-requires c κs = search needs
 
 same-length : tie.Need-same-length
 same-length c = search needs
@@ -47,12 +44,11 @@ same-length-2 c = search needs
 
 returns : tie.Need-returns
 returns c =
-    let wrote = c .before .before .before in
+    let wrote = c .before .before in
     let happen = wrote .before .before .before .before .before in
-    let least = happen .before .before .before .before in
+    let least = happen .before .before .before .before .before .before .before in
     let a = least .before .before .before .args in
-    rw (c .with-live .ensures)
-    (plays _ (a .desk) _ _ (now (a .buffer)) _ _ _ _ row _ _ (least .least .ensures) (happen .happen .ensures) (wrote .row .ensures))
+    plays _ (a .desk) _ _ _ _ (now (a .buffer)) _ _ _ _ _ _ _ row _ _ (least .least .ensures) (happen .happen .ensures) (wrote .row .ensures)
 
 pub tick-spec : {M : Type 1} → statement M
 tick-spec =
@@ -66,7 +62,6 @@ tick-spec =
     slice-reshare-prefix-row
     slice-aggregate-row
     row-requires
-    with-live-requires
     same-length
     same-length-2
     returns)

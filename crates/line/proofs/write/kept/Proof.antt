@@ -1,57 +1,97 @@
--- `kept` meets its contract: the rest of each place is untouched.
+-- `kept` meets its contract. The invariant: the places that are left answer for the whole.
+use mathlib.Core.Path.{_≡_, refl}
+use Prim.Native.Nat.{_*_, _≤_, _-_}
+use native.Mathlib.Omega.{arith}
 use borrow.Author.Needs.{needs}
-use Rattle.line.proofs.Writing.{both-untouched}
+use lib.ListN.{length, drop}
+use borrow.Author.Tests.{not-true, not-false}
+use Rattle.model.specs.Model.{paddleCount, place}
+use Rattle.line.specs.Writing.{outside, untouched}
+use Rattle.line.proofs.Writing.{outside-next, outside-end}
 use Rattle.line.proofs.write.kept.Statement.{statement}
 use Rattle.line.proofs.write.kept.Tie as tie
 
-front-requires : tie.Need-front-requires
-front-requires c κs = search needs
+abbrev Inv-loop : tie.InvT-loop
+Inv-loop out lengths i₀ i =
+    (i ≤ paddleCount) × ((length lengths ≡ paddleCount) × (untouched (outside (drop i lengths) (drop (i * place) out)) ≡ untouched (outside lengths out)))
 
-cast-behind : tie.Need-cast-behind
-cast-behind c = search needs
+abbrev μ-loop : tie.MeasureT-loop
+μ-loop out lengths i₀ i = paddleCount - i
 
-behind-requires : tie.Need-behind-requires
+loop-holds : tie.Need-loop-holds Inv-loop μ-loop
+loop-holds c = (search needs, (search needs, refl))
+
+mul-behind : tie.Need-mul-behind Inv-loop μ-loop
+mul-behind c = search needs
+
+behind-requires : tie.Need-behind-requires Inv-loop μ-loop
 behind-requires c κs = search needs
 
-untouched-requires : tie.Need-untouched-requires
-untouched-requires c κs = search needs
+front-requires : tie.Need-front-requires Inv-loop μ-loop
+front-requires c κs = search needs
 
-behind-requires-2 : tie.Need-behind-requires-2
+array-read-length : tie.Need-array-read-length Inv-loop μ-loop
+array-read-length c = search needs
+
+cast-length : tie.Need-cast-length Inv-loop μ-loop
+cast-length c = search needs
+
+behind-requires-2 : tie.Need-behind-requires-2 Inv-loop μ-loop
 behind-requires-2 c κs = search needs
 
-cast-behind-2 : tie.Need-cast-behind-2
-cast-behind-2 c = search needs
+untouched-requires : tie.Need-untouched-requires Inv-loop μ-loop
+untouched-requires c κs = search needs
 
-behind-requires-3 : tie.Need-behind-requires-3
+returns : tie.Need-returns Inv-loop μ-loop
+returns c =
+    let test = c .before in
+    let front = test .before .before in
+    let loop = front .before .before .before .loop in
+    outside-next _ _ (loop .i) _ _ _ _ _ _ (search needs) (front .before .behind .ensures) (front .front .ensures) (test .before .behind2 .ensures) (test .untouched .ensures) (not-true _ (c .if1 .taken)) (loop .inv .1 .1)
+
+add-i : tie.Need-add-i Inv-loop μ-loop
+add-i c = search needs
+
+loop-less : tie.Need-loop-less Inv-loop μ-loop
+loop-less c = search needs
+
+loop-again : tie.Need-loop-again Inv-loop μ-loop
+loop-again c =
+    let test = c .before in
+    let front = test .before .before in
+    let loop = front .before .before .before .loop in
+    (search needs, (search needs, outside-next _ _ (loop .i) _ _ _ _ _ _ (search needs) (front .before .behind .ensures) (front .front .ensures) (test .before .behind2 .ensures) (test .untouched .ensures) (not-false _ (c .if1 .left)) (loop .inv .1 .1)))
+
+behind-requires-3 : tie.Need-behind-requires-3 Inv-loop μ-loop
 behind-requires-3 c κs = search needs
 
-untouched-requires-2 : tie.Need-untouched-requires-2
+untouched-requires-2 : tie.Need-untouched-requires-2 Inv-loop μ-loop
 untouched-requires-2 c κs = search needs
 
-returns : tie.Need-returns
-returns c =
-    let second = c .before in
-    let test = second .before .before .before in
-    let first = test .before .before in
-    rw (both-untouched, ← first .before .before .front .ensures, ← first .behind .ensures, ← test .before .untouched .ensures, test .if1 .taken, ← second .before .before .behind2 .ensures, ← second .behind3 .ensures)
-    (c .untouched2 .ensures)
-
-returns-2 : tie.Need-returns-2
+returns-2 : tie.Need-returns-2 Inv-loop μ-loop
 returns-2 c =
-    let first = c .before .before in
-    rw (both-untouched, ← first .before .before .front .ensures, ← first .behind .ensures, ← c .before .untouched .ensures, c .if1 .left)
+    let left = c .before in
+    let loop = left .before .before .loop in
+    outside-end _ _ (loop .i) _ _ _ (search needs) (omega arith) (left .behind3 .ensures) (c .untouched2 .ensures) (loop .inv .1 .1)
 
 pub kept-spec : {M : Type 1} → statement M
 kept-spec =
     tie.close
     (tie.spec
-    front-requires
-    cast-behind
+    Inv-loop
+    μ-loop
+    loop-holds
+    mul-behind
     behind-requires
-    untouched-requires
+    front-requires
+    array-read-length
+    cast-length
     behind-requires-2
-    cast-behind-2
+    untouched-requires
+    returns
+    add-i
+    loop-less
+    loop-again
     behind-requires-3
     untouched-requires-2
-    returns
     returns-2)

@@ -19,13 +19,13 @@ nobody-requires : tie.Need-nobody-requires
 nobody-requires c κs = search needs
 
 returns : tie.Need-returns
-returns c = starts-none _ _ _ _ _ _ (c .before .before .before .before .take .ensures) (not-taken _ (c .before .before .before .match .keys2)) (c .before .number .ensures) (c .nobody .ensures)
+returns c = starts-none _ _ _ _ _ _ _ _ _ (c .before .before .before .before .take .ensures) (not-taken _ (c .before .before .before .match .keys2)) (c .before .number .ensures) (c .nobody .ensures)
 
 wake-requires : tie.Need-wake-requires
 wake-requires c κs = search needs
 
 returns-2 : tie.Need-returns-2
-returns-2 c = starts _ _ _ _ _ _ _ _ (c .before .before .before .before .before .take .ensures) (c .before .before .before .taken .given .1) (c .wake .ensures)
+returns-2 c = starts _ _ _ _ _ _ _ _ _ _ _ _ _ (c .before .before .before .before .before .before .before .before .before .before .before .take .ensures) (c .before .before .before .before .before .before .before .before .before .taken .given .1) (c .wake .ensures)
 
 pub start-spec : {M : Type 1} → statement M
 start-spec =

@@ -12,20 +12,20 @@ apply-requires c κs = search needs
 started-requires : tie.Need-started-requires
 started-requires c κs = search needs
 
+keep-requires : tie.Need-keep-requires
+keep-requires c κs = search needs
+
+raise-requires : tie.Need-raise-requires
+raise-requires c κs = search needs
+
 none-requires : tie.Need-none-requires
 none-requires c κs = search needs
 
 show-requires : tie.Need-show-requires
 show-requires c κs = search needs
 
-up-requires : tie.Need-up-requires
-up-requires c κs = search needs
-
-up-requires-2 : tie.Need-up-requires-2
-up-requires-2 c κs = search needs
-
 returns : tie.Need-returns
-returns c = woke _ _ _ _ _ _ _ _ (c .before .before .before .before .before .before .before .apply .ensures) (c .before .before .before .before .before .started .ensures) (c .before .before .before .none .ensures) (c .before .before .show .ensures) (c .before .up .ensures) (c .up2 .ensures)
+returns c = woke _ _ _ _ _ _ _ _ _ _ (c .before .before .none .result) (c .show .result) (c .before .before .before .before .before .before .before .before .before .before .apply .ensures) (c .before .before .before .before .before .before .before .before .started .ensures) (c .before .before .before .before .before .keep .ensures) (c .before .before .before .raise .ensures) (c .before .before .none .ensures) (c .show .ensures)
 
 pub wake-spec : {M : Type 1} → statement M
 wake-spec =
@@ -34,8 +34,8 @@ wake-spec =
     slice-aggregate-apply
     apply-requires
     started-requires
+    keep-requires
+    raise-requires
     none-requires
     show-requires
-    up-requires
-    up-requires-2
     returns)

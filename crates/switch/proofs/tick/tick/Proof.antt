@@ -1,34 +1,23 @@
-use denote.Ref.{now}
-use Rattle.switch.specs.Switch.{tick}
-use Rattle.switch.proofs.Laws.{responds-short}
-use Rattle.switch.proofs.Quick.{passed-responds}
 use borrow.Author.Needs.{needs}
+use borrow.Author.Tests.{not-false}
+use native.Mathlib.Omega.{arith}
+use Rattle.switch.specs.Switch.{tick}
+use Rattle.switch.proofs.Laws.{short-responds}
+use Rattle.switch.proofs.Ticking.{tick-all, tick-quick}
 use Rattle.switch.proofs.tick.tick.Statement.{statement}
 use Rattle.switch.proofs.tick.tick.Tie as tie
 
-refused-requires : tie.Need-refused-requires
-refused-requires c κs = search needs
+none-requires : tie.Need-none-requires
+none-requires c κs = search needs
+
+shown-requires : tie.Need-shown-requires
+shown-requires c κs = search needs
 
 returns : tie.Need-returns
-returns c =
-    let a = c .before .before .before .before .args in
-    responds-short tick (a .live) (now (a .all)) (now (a .out)) (c .refused .result) (c .before .before .if1 .taken) (c .refused .ensures)
+returns c = short-responds tick _ _ _ _ _ (c .before .before .before .before .none .result) (c .shown .result) (omega arith) (c .before .before .before .before .none .ensures) (c .shown .ensures)
 
-recognise-requires : tie.Need-recognise-requires
-recognise-requires c κs = search needs
-
-pass-requires : tie.Need-pass-requires
-pass-requires c κs = search needs
-
-returns-2 : tie.Need-returns-2
-returns-2 c =
-    let pass = c .before .before in
-    let test = pass .before .before in
-    let recognise = test .before .before .before .before in
-    let room = recognise .before .before .before .before in
-    let a = room .before .before .args in
-    passed-responds (a .live) (now (a .all)) (now (a .out)) (recognise .recognise .result) (pass .pass .result)
-    (room .if1 .left) (recognise .recognise .ensures) (test .if2 .taken) (pass .pass .ensures)
+save-in-requires : tie.Need-save-in-requires
+save-in-requires c κs = search needs
 
 turn-requires : tie.Need-turn-requires
 turn-requires c κs = search needs
@@ -36,18 +25,59 @@ turn-requires c κs = search needs
 same-length : tie.Need-same-length
 same-length c = search needs
 
+returns-2 : tie.Need-returns-2
+returns-2 c = tick-all _ _ _ _ _ _ _ _ _ _ _ (omega arith) (c .before .before .turn .ensures)
+
+quiet-requires : tie.Need-quiet-requires
+quiet-requires c κs = search needs
+
+turn-requires-2 : tie.Need-turn-requires-2
+turn-requires-2 c κs = search needs
+
+same-length-2 : tie.Need-same-length-2
+same-length-2 c = search needs
+
 returns-3 : tie.Need-returns-3
-returns-3 c = search needs
+returns-3 c = tick-all _ _ _ _ _ _ _ _ _ _ _ (omega arith) (c .before .before .turn2 .ensures)
+
+sized-requires : tie.Need-sized-requires
+sized-requires c κs = search needs
+
+run-requires : tie.Need-run-requires
+run-requires c κs = search needs
+
+pass-requires : tie.Need-pass-requires
+pass-requires c κs = search needs
+
+none-requires-2 : tie.Need-none-requires-2
+none-requires-2 c κs = search needs
+
+shown-requires-2 : tie.Need-shown-requires-2
+shown-requires-2 c κs = search needs
+
+returns-4 : tie.Need-returns-4
+returns-4 c =
+    tick-quick _ _ _ _ _ _ _ _ _ _ (c .before .before .before .before .none2 .result) (c .shown2 .result) (omega (arith, c .before .before .before .before .before .before .before .before .before .before .before .before .before .before .before .before .before .before .before .if1 .left)) (c .before .before .before .before .before .before .before .before .before .before .before .before .before .before .before .before .before .save-in .ensures) (omega (arith, c .before .before .before .before .before .before .before .before .before .before .before .before .before .before .before .before .if2 .left)) (c .before .before .before .before .before .before .before .before .before .before .before .before .before .before .quiet .ensures) (not-false _ (c .before .before .before .before .before .before .before .before .before .before .before .before .before .if3 .left)) (c .before .before .before .before .before .before .before .before .before .before .sized .ensures) (c .before .before .before .before .before .before .before .before .run .ensures)
+    (c .before .before .before .before .before .pass .ensures) (c .before .before .before .before .none2 .ensures) (c .shown2 .ensures)
 
 pub tick-spec : {M : Type 1} → statement M
 tick-spec =
     tie.close
     (tie.spec
-    refused-requires
+    none-requires
+    shown-requires
     returns
-    recognise-requires
-    pass-requires
-    returns-2
+    save-in-requires
     turn-requires
     same-length
-    returns-3)
+    returns-2
+    quiet-requires
+    turn-requires-2
+    same-length-2
+    returns-3
+    sized-requires
+    run-requires
+    pass-requires
+    none-requires-2
+    shown-requires-2
+    returns-4)

@@ -1,11 +1,19 @@
-use denote.Ref.{now}
-use Rattle.switch.proofs.Finishing.{ticked-responds}
 use borrow.Author.Needs.{needs}
+use Rattle.switch.proofs.Ticking.{ticks-all}
 use Rattle.switch.proofs.tick.turn.Statement.{statement}
 use Rattle.switch.proofs.tick.turn.Tie as tie
 
+tick-requires : tie.Need-tick-requires
+tick-requires c κs = search needs
+
+core-of-requires : tie.Need-core-of-requires
+core-of-requires c κs = search needs
+
 aged-requires : tie.Need-aged-requires
 aged-requires c κs = search needs
+
+password-of-requires : tie.Need-password-of-requires
+password-of-requires c κs = search needs
 
 turns-requires : tie.Need-turns-requires
 turns-requires c κs = search needs
@@ -19,43 +27,31 @@ slice-aggregate-apply c = search needs
 apply-requires : tie.Need-apply-requires
 apply-requires c κs = search needs
 
-lay-notes-requires : tie.Need-lay-notes-requires
-lay-notes-requires c κs = search needs
-
-signalled-on-requires : tie.Need-signalled-on-requires
-signalled-on-requires c κs = search needs
-
-show-requires : tie.Need-show-requires
-show-requires c κs = search needs
+finish-requires : tie.Need-finish-requires
+finish-requires c κs = search needs
 
 same-length : tie.Need-same-length
 same-length c = search needs
 
 returns : tie.Need-returns
 returns c =
-    let blink = c .before .before .before .before in
-    let lay = blink .before .before .before in
-    let apply = lay .before .before in
-    let save = apply .before .before .before in
-    let turns = save .before .before in
-    let aged = turns .before .before in
-    let start = aged .before .before .before .before .before in
-    let a = start .args in
-    ticked-responds (a .live) (now (a .all)) (now (a .out)) (aged .aged .result) (turns .turns .result .core) (blink .signalled-on .result) _ _ _
-    (turns .turns .result .notes) (turns .turns .result .password) (turns .turns .result .paddles) (save .saved .result) (lay .lay-notes .result) (c .show .result)
-    (start .pre) (aged .aged .ensures) (turns .turns .ensures) (save .saved .ensures) (apply .apply .ensures) (lay .lay-notes .ensures) (blink .signalled-on .ensures) (c .show .ensures)
+    let finish = c .before .before in
+    let turns = finish .before .before .before .before .before .before .before .before .before .before in
+    ticks-all _ _ _ _ _ _ _ _ _ _ _ _ _ _ _ _ _ _ _ _ (turns .before .before .before .before .before .before .before .before .tick .ensures) (turns .before .before .before .before .before .core-of .ensures) (turns .before .before .before .before .aged .ensures) (turns .before .before .password-of .ensures) (turns .turns .ensures)
+    (finish .before .before .before .before .before .before .before .before .before .saved .ensures) (finish .before .before .before .before .before .before .apply .ensures) (finish .finish .ensures)
 
 pub turn-spec : {M : Type 1} → statement M
 turn-spec =
     tie.close
     (tie.spec
+    tick-requires
+    core-of-requires
     aged-requires
+    password-of-requires
     turns-requires
     saved-requires
     slice-aggregate-apply
     apply-requires
-    lay-notes-requires
-    signalled-on-requires
-    show-requires
+    finish-requires
     same-length
     returns)

@@ -5,7 +5,7 @@ use native.Mathlib.Omega.{arith}
 use denote.Ref.{now}
 use lib.ListN.{length, take}
 use borrow.Author.Needs.{needs}
-use Rattle.model.specs.Model.{paddles}
+use Rattle.model.specs.Model.{paddleCount}
 use Rattle.post.specs.Post.{lengthsIn}
 use Rattle.post.specs.Code.{noted}
 use Rattle.post.proofs.Laws.{filled-keeps}
@@ -15,7 +15,7 @@ use Rattle.post.proofs.outbox.Outbox.lay.Tie as tie
 
 abbrev Inv-loop : tie.InvT-loop
 Inv-loop out₀ notes end lengths₀ count₀ i₀ out lengths count i =
-    (i ≤ end) × ((end ≤ paddles) × ((length notes ≡ paddles) × Underway (noted (take i notes)) out₀ i count lengths out))
+    (i ≤ end) × ((end ≤ paddleCount) × ((length notes ≡ paddleCount) × Underway (noted (take i notes)) out₀ i count lengths out))
 
 abbrev μ-loop : tie.MeasureT-loop
 μ-loop out₀ notes end lengths₀ count₀ i₀ out lengths count i = end - i
@@ -30,7 +30,7 @@ loop-holds : tie.Need-loop-holds Inv-loop μ-loop
 unfolding lengthsIn
 loop-holds c =
     let a = c .before .before .before .before .args in
-    let whole : length (a .self .notes) ≡ paddles = search (needs, length-of-mapped) in
+    let whole : length (a .self .notes) ≡ paddleCount = search (needs, length-of-mapped) in
     (omega arith, (omega arith, (whole, laying-begins (a .self .notes) (now (a .out)))))
 
 mul-note : tie.Need-mul-note Inv-loop μ-loop

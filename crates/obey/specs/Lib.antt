@@ -1,0 +1,2 @@
+pub mod Obey
+pub mod Code

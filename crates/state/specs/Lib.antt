@@ -1,0 +1,5 @@
+pub mod Kinds
+pub mod State
+pub mod Keeping
+pub mod Paddles
+pub mod Code
