@@ -29,7 +29,8 @@ use Rattle.line.specs.declared.read.Line.the-variants.{Pass, Unread, Image, Roo
 use Rattle.line.proofs.read.Line.{the-type}
 use Rattle.desk.specs.declared.play.Desk.{Desk}
 use Rattle.desk.specs.declared.play.Event.{Event}
-use Rattle.desk.specs.Playing.{Arrays, arrays, switchIn, keptIn, cleared, Done, done, scene, sceneOf, filled, deedOf, happened, told, begun, ticksOf, same, Plays}
+use Rattle.switch.specs.Switch.{Arrays, arrays, switchIn, keptIn}
+use Rattle.desk.specs.Playing.{cleared, Done, done, scene, sceneOf, filled, deedOf, happened, told, begun, ticksOf, same, Plays}
 
 -- One byte more is filled.
 pub filled-next : (out : List ℕ) (i : ℕ) → i < length out → take i out ≡ replicate i fill → take (i + 1) (set out i fill) ≡ replicate (i + 1) fill

@@ -7,15 +7,13 @@ use mathlib.Core.Path.{_≡_}
 use lib.Dec.{eqb}
 use lib.ListN.{length, take, drop, replicate}
 use Rattle.words.specs.Words.{if_then_else_}
-use Rattle.vault.specs.Job.{Switch}
 use Rattle.vault.specs.declared.Password.{Password}
 use Rattle.model.specs.Model.{room}
 use Rattle.registers.specs.Registers.{imageOf}
 use Rattle.post.specs.Post.{placed}
 use Rattle.state.specs.State.{counterCount, numberCount, passwordOf}
-use Rattle.state.specs.Keeping.{keptCounters, keptNumbers}
-use Rattle.state.specs.Paddles.{byteCount, keptPaddles}
-use Rattle.switch.specs.Switch.{Plain, Deed, press, release, tick, receive, restart, event, switchOf}
+use Rattle.state.specs.Paddles.{byteCount}
+use Rattle.switch.specs.Switch.{Arrays, arrays, switchIn, keptIn, Deed, press, release, tick, receive, restart, event}
 use Rattle.switch.specs.Respond.{respond, whole, startAnswer, startedFrom}
 use Rattle.switch.specs.declared.Answer.{Answer}
 use Rattle.line.specs.declared.read.Line.{Line}
@@ -24,25 +22,6 @@ use Rattle.desk.specs.declared.play.Event.{Event}
 use Rattle.desk.specs.declared.play.Event.the-variants as happens
 use Rattle.desk.specs.declared.play.Desk.{Desk}
 use Rattle.line.specs.Writing.{Page, puts, fill, started, answered, dump, none, unread}
-
--- What a switch is kept in: counters, numbers, the paddles' bytes and the registers.
-pub record Arrays : Type 0 where
-  pub counters : List ℕ
-  pub numbers : List ℕ
-  pub paddles : List ℕ
-  pub registers : List ℕ
-
-abbrev pub arrays : List ℕ → List ℕ → List ℕ → List ℕ → Arrays
-arrays counters numbers paddles registers = record { counters = counters; numbers = numbers; paddles = paddles; registers = registers }
-
--- The switch that is kept in them.
-abbrev pub switchIn : Arrays → Switch Plain
-switchIn a = switchOf (a .counters) (a .numbers) (a .paddles) (a .registers)
-
--- A switch, kept in arrays that held another one.
-abbrev pub keptIn : Arrays → Switch Plain → Arrays
-keptIn a s =
-    arrays (keptCounters (s .plain .core) (a .counters)) (keptNumbers (s .plain .core) (s .password) (a .numbers)) (keptPaddles (s .plain .paddles) (a .paddles)) (s .plain .registers)
 
 -- Arrays in which nothing is left of a switch that stood there.
 abbrev pub cleared : Arrays

@@ -16,14 +16,14 @@ use Rattle.post.specs.Post.{tally}
 use Rattle.state.specs.Paddles.{paddleAt, byteCount}
 use Rattle.state.specs.State.{counterCount, numberCount}
 use Rattle.state.proofs.Laws.{fresh-count}
-use Rattle.switch.specs.Switch.{Deed, Plain, answerOf, answerWith, event, press, receive, tick}
+use Rattle.switch.specs.Switch.{Arrays, Deed, Plain, answerOf, answerWith, event, keptIn, press, receive, switchIn, tick}
 use Rattle.switch.specs.Events.{woken}
 use Rattle.switch.specs.Respond.{respond, startedFrom}
 use Rattle.switch.specs.declared.Answer.{Answer}
 use Rattle.promises.specs.Cases.{benchImage, packetA, zeros}
 use Rattle.promises.specs.Numbers.{Unchanged, done, no-room, numberAt}
 use Rattle.promises.specs.Bounds.{Sane}
-use Rattle.promises.specs.Rivals.{Arrays, Meets, OneOutcome, Right, StoodAt, Rival, ShutsOut, deaf, fixed, honest, inventing, keptIn, once, refusing, switchIn, told}
+use Rattle.promises.specs.Rivals.{Meets, OneOutcome, Right, StoodAt, Rival, ShutsOut, deaf, fixed, honest, inventing, once, refusing, told}
 use Rattle.promises.proofs.Bounds.{within-bounds}
 use Rattle.promises.proofs.Cases.{cases, fresh-at, has-pressed}
 use Rattle.promises.proofs.Numbers.{numbers}

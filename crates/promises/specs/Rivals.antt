@@ -3,38 +3,15 @@ use mathlib.Core.List.{List, []}
 use mathlib.Core.Path.{_≡_}
 use Prim.Native.Nat.{ℕ, zero, suc}
 use lib.ListN.{length}
-use Rattle.vault.specs.Job.{Switch}
 use Rattle.vault.specs.Machine.{run}
 use Rattle.vault.specs.Product.{machine}
 use Rattle.registers.specs.Places.{size}
 use Rattle.post.specs.Post.{placed, tally}
 use Rattle.state.specs.State.{counterCount, numberCount}
-use Rattle.state.specs.Keeping.{keptCounters, keptNumbers}
-use Rattle.state.specs.Paddles.{byteCount, keptPaddles}
-use Rattle.switch.specs.Switch.{Deed, Event, Plain, answerWith, event, switchOf}
+use Rattle.state.specs.Paddles.{byteCount}
+use Rattle.switch.specs.Switch.{Arrays, Deed, Event, answerWith, event, keptIn, switchIn}
 use Rattle.switch.specs.Respond.{Responds, Starts, respond, startedFrom, wallSwitch}
 use Rattle.switch.specs.declared.Answer.{Answer}
-
--- The four arrays in which a caller keeps a switch.
-pub record Arrays : Type 0 where
-  pub counters : List ℕ
-  pub numbers : List ℕ
-  pub paddles : List ℕ
-  pub registers : List ℕ
-
--- The switch that they stand for.
-abbrev pub switchIn : Arrays → Switch Plain
-switchIn k = switchOf (k .counters) (k .numbers) (k .paddles) (k .registers)
-
--- A switch kept in them.
-abbrev pub keptIn : Arrays → Switch Plain → Arrays
-keptIn k s =
-    record {
-      counters = keptCounters (s .plain .core) (k .counters);
-      numbers = keptNumbers (s .plain .core) (s .password) (k .numbers);
-      paddles = keptPaddles (s .plain .paddles) (k .paddles);
-      registers = s .plain .registers;
-    }
 
 -- What an event function hands back.
 pub record Told : Type 0 where

@@ -9,7 +9,8 @@ use Rattle.acts.specs.declared.Core.{Core}
 use Rattle.post.specs.Post.{tally}
 use Rattle.post.specs.declared.outbox.Sent.{Sent}
 use Rattle.state.specs.State.{coreOf, passwordOf}
-use Rattle.state.specs.Paddles.{paddlesOf}
+use Rattle.state.specs.Keeping.{keptCounters, keptNumbers}
+use Rattle.state.specs.Paddles.{keptPaddles, paddlesOf}
 use Rattle.switch.specs.declared.Answer.{Answer}
 
 -- All that a switch holds but its password: the registers, the core, and the paddles by their number.
@@ -24,6 +25,25 @@ plain registers core paddles = record { registers = registers; core = core; padd
 -- The switch that a caller keeps in counters, numbers, the paddles' bytes and the registers.
 abbrev pub switchOf : List ℕ → List ℕ → List ℕ → List ℕ → Switch Plain
 switchOf counters numbers paddles all = switch (plain all (coreOf counters numbers) (paddlesOf paddles)) (passwordOf numbers)
+
+-- The four arrays in which a caller keeps a switch.
+pub record Arrays : Type 0 where
+  pub counters : List ℕ
+  pub numbers : List ℕ
+  pub paddles : List ℕ
+  pub registers : List ℕ
+
+abbrev pub arrays : List ℕ → List ℕ → List ℕ → List ℕ → Arrays
+arrays counters numbers paddles registers = record { counters = counters; numbers = numbers; paddles = paddles; registers = registers }
+
+-- The switch that they stand for.
+abbrev pub switchIn : Arrays → Switch Plain
+switchIn a = switchOf (a .counters) (a .numbers) (a .paddles) (a .registers)
+
+-- A switch kept in them, whatever they held.
+abbrev pub keptIn : Arrays → Switch Plain → Arrays
+keptIn a s =
+    arrays (keptCounters (s .plain .core) (a .counters)) (keptNumbers (s .plain .core) (s .password) (a .numbers)) (keptPaddles (s .plain .paddles) (a .paddles)) (s .plain .registers)
 
 -- 01, Events and time, 2: the five kinds of event. A press or release names its contact, a receive has the packet's bytes.
 pub data Deed : Type 0 where
