@@ -1,5 +1,6 @@
 //! Plans of events from a seed, and the scripts written from them.
 
+use crate::errands;
 use crate::images;
 use crate::levels;
 use crate::packets;
@@ -30,6 +31,8 @@ pub struct Plan {
 
 const FEWEST: usize = 50;
 const MOST: usize = 400;
+/// Events before the errand, at most, but for those of the last piece.
+const LATEST_ERRAND: u32 = 120;
 /// Ticks after which a script of enough events ends.
 const TICKS: u32 = 17_000;
 
@@ -147,10 +150,10 @@ pub fn plan(seed: u64) -> Plan {
     if play.random.chance(40) {
         play.wait(480);
     }
-    while play.events.len() < FEWEST || (play.events.len() < wanted && play.passed < TICKS) {
-        let piece = play.random.weighted(theme);
-        piece(&mut play);
-    }
+    let due = play.random.below(LATEST_ERRAND) as usize;
+    fill(&mut play, theme, due.min(wanted));
+    errands::run(&mut play, seed);
+    fill(&mut play, theme, wanted);
     play.events.truncate(MOST - 10);
     match ending {
         0 => levels::slowest(&mut play),
@@ -161,6 +164,14 @@ pub fn plan(seed: u64) -> Plan {
     Plan {
         image: registers.to_vec(),
         events: play.events,
+    }
+}
+
+/// Adds pieces up to so many events, or until enough time has passed.
+fn fill(play: &mut Play, theme: &[(u32, Piece)], wanted: usize) {
+    while play.events.len() < wanted && (play.events.len() < FEWEST || play.passed < TICKS) {
+        let piece = play.random.weighted(theme);
+        piece(play);
     }
 }
 

@@ -4,7 +4,7 @@ use crate::packets::{self, BLINK, DEACTIVATE, FADE_START, FADE_STOP, GOTO, REPOR
 use crate::play::Play;
 
 /// Ticks per step for rates 0 to 15.
-const TICKS: [u32; 16] = [
+pub const TICKS: [u32; 16] = [
     1, 1, 2, 4, 6, 8, 12, 24, 36, 72, 144, 360, 720, 1080, 2160, 4320,
 ];
 

@@ -66,6 +66,28 @@ pub fn linked(play: &mut Play, message: &[u8]) {
     deliver(play, address, message);
 }
 
+/// Sends a message from source 0, by a link or, without one, to the switch itself.
+pub fn from_nobody(play: &mut Play, link: Option<u8>, message: &[u8]) {
+    let address = Address {
+        link: link.is_some(),
+        network: play.belief.network(),
+        destination: link.unwrap_or(play.belief.unit()),
+        source: 0,
+    };
+    deliver(play, address, message);
+}
+
+/// Sends a message from source 0 to destination 0 on network 0.
+pub fn to_all_from_nobody(play: &mut Play, message: &[u8]) {
+    let address = Address {
+        link: false,
+        network: 0,
+        destination: 0,
+        source: 0,
+    };
+    deliver(play, address, message);
+}
+
 /// Start Setup with the right password.
 pub fn start_setup(play: &mut Play) {
     let [first, second] = play.belief.password();

@@ -76,7 +76,7 @@ pub fn write(plan: &Plan, seed: u64) -> Vec<u8> {
     if writer.random.chance(15) {
         writer.too_early();
     }
-    writer.image(&plan.image);
+    writer.first_start(&plan.image);
     let anew = writer.second_start(plan.events.len());
     for (number, event) in plan.events.iter().enumerate() {
         if anew == Some(number) {
@@ -141,6 +141,18 @@ impl Writer {
     fn image(&mut self, image: &[u8]) {
         let line = format!("i {}", self.hex(image));
         self.line(line.as_bytes());
+    }
+
+    /// The start takes no buffer, so a short one does not keep it from anything.
+    fn first_start(&mut self, image: &[u8]) {
+        let short = self.random.chance(10);
+        if short {
+            self.line(b"b 47");
+        }
+        self.image(image);
+        if short {
+            self.line(b"b 48");
+        }
     }
 
     /// Events before any start, and perhaps a start that is refused.

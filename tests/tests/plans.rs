@@ -1,9 +1,44 @@
-//! Checks that the plans and scripts of the first seeds hold what they are made for.
+//! Checks that the plans and scripts hold what they are made for: the first three hundred much, and all that the gate plays what
+//! the errands are for.
+
+mod watch;
 
 use std::collections::BTreeSet;
+use std::sync::OnceLock;
 use trials::generate::{plan, script, Event, Plan};
+use trials::GATE_SCRIPTS;
+use watch::{watch, Meter, Seen};
 
 const SEEDS: u64 = 300;
+
+/// An errand is run at least so often, as long as there are not more than twenty.
+const TURNS: u32 = (GATE_SCRIPTS / 20) as u32;
+
+/// The commands, and the number of the answer that each gets from source 0.
+const FROM_NOBODY: [(u8, u8); 12] = [
+    (0x03, 0),
+    (0x04, 0),
+    (0x10, 13),
+    (0x11, 0),
+    (0x20, 0),
+    (0x21, 0),
+    (0x22, 0),
+    (0x23, 0),
+    (0x24, 0),
+    (0x25, 0),
+    (0x30, 13),
+    (0x31, 0),
+];
+
+/// What the gate's plans reach.
+fn seen() -> &'static Seen {
+    static SEEN: OnceLock<Seen> = OnceLock::new();
+    SEEN.get_or_init(|| {
+        let mut seen = Seen::default();
+        (0..GATE_SCRIPTS).for_each(|seed| watch(&plan(seed), &mut seen));
+        seen
+    })
+}
 
 fn plans() -> impl Iterator<Item = Plan> {
     (0..SEEDS).map(plan)
@@ -13,56 +48,6 @@ fn sum(bytes: &[u8]) -> u8 {
     bytes
         .iter()
         .fold(0, |sum: u8, &byte| sum.wrapping_add(byte))
-}
-
-/// Measures presses, gaps and closed runs of taps on one paddle.
-#[derive(Default)]
-struct Meter {
-    down: [bool; 2],
-    /// Ticks since the paddle went down or up, and since the last tap.
-    still: u32,
-    since_tap: u32,
-    taps: u32,
-    presses: BTreeSet<u32>,
-    gaps: BTreeSet<u32>,
-    runs: BTreeSet<u32>,
-}
-
-impl Meter {
-    fn restart(&mut self) {
-        (self.down, self.still, self.taps) = ([false; 2], 0, 0);
-    }
-
-    fn edge(&mut self, slave: usize, down: bool) {
-        let before = self.down.contains(&true);
-        self.down[slave] = down;
-        let after = self.down.contains(&true);
-        if before == after {
-            return;
-        }
-        if after {
-            self.gaps.insert(self.still);
-        } else {
-            self.presses.insert(self.still);
-            if (60..180).contains(&self.still) {
-                (self.taps, self.since_tap) = (self.taps + 1, 0);
-            }
-        }
-        self.still = 0;
-    }
-
-    fn ticks(&mut self, count: u32) {
-        self.still += count;
-        self.since_tap += count;
-        if self.down.contains(&true) {
-            if self.still >= 180 {
-                self.taps = 0;
-            }
-        } else if self.since_tap >= 180 {
-            self.runs.insert(self.taps);
-            self.taps = 0;
-        }
-    }
 }
 
 /// Plays the plan on a meter for each paddle.
@@ -79,7 +64,13 @@ fn measure(plan: &Plan, meters: &mut [Meter; 2]) {
                     meters[usize::from(contact % 2)].edge(usize::from(contact / 2), down);
                 }
             }
-            Event::Ticks(count) => meters.iter_mut().for_each(|meter| meter.ticks(count)),
+            Event::Ticks(count) => {
+                for _ in 0..count {
+                    for meter in &mut *meters {
+                        meter.tick();
+                    }
+                }
+            }
             Event::Restart => meters.iter_mut().for_each(Meter::restart),
             Event::Packet(_) | Event::Dump => {}
         }
@@ -203,4 +194,81 @@ fn scripts_hold_the_oddities_of_a_text() {
             .count()
     };
     assert!(scripts.iter().any(|script| starts(script) > 1));
+}
+
+#[test]
+fn every_pair_of_runs_closes_in_one_tick() {
+    for mode in 0..3 {
+        for (top, bottom) in [1, 2, 5, 10]
+            .map(|top| [1, 2, 5, 10].map(|bottom| (top, bottom)))
+            .concat()
+        {
+            let pair = (mode, top, bottom);
+            assert!(
+                seen().pairs.contains(&pair),
+                "{top} and {bottom} taps in mode {mode}"
+            );
+        }
+    }
+}
+
+#[test]
+fn runs_of_every_length() {
+    for mode in 0..3 {
+        for taps in 1..=13 {
+            assert!(
+                seen().runs.contains(&(mode, taps)),
+                "{taps} taps in mode {mode}"
+            );
+        }
+    }
+}
+
+#[test]
+fn gestures_move_the_level_in_ticks_that_save() {
+    let times = seen().moved_saves;
+    assert!(times >= TURNS, "{times} times");
+}
+
+#[test]
+fn dimmer_options_change_during_fades() {
+    let times = seen().changed_fades;
+    assert!(times >= TURNS, "{times} times");
+}
+
+#[test]
+fn slow_fades_come_to_their_end() {
+    assert_eq!(seen().slow_ends, (10..=14).collect());
+}
+
+#[test]
+fn every_range_around_the_password_is_read() {
+    for mode in 0..3 {
+        for first in 0..4 {
+            for count in 1..=16 {
+                let get = (mode, first, count);
+                assert!(
+                    seen().gets.contains(&get),
+                    "{count} registers from {first} in mode {mode}"
+                );
+            }
+        }
+    }
+}
+
+#[test]
+fn every_command_comes_from_source_0() {
+    for command in FROM_NOBODY {
+        let times = seen().from_nobody.get(&command).copied().unwrap_or(0);
+        assert!(
+            times >= TURNS,
+            "command and number {command:02x?}: {times} times"
+        );
+    }
+}
+
+#[test]
+fn levels_set_when_not_capable_are_asked_for_when_capable() {
+    let times = seen().last_while_not_capable;
+    assert!(times >= TURNS, "{times} times");
 }

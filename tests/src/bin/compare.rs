@@ -1,5 +1,5 @@
 //! Plays seeded scripts on two programs and compares what they print, line by line:
-//! `compare N DRIVE REFERENCE [FIRST_SEED]`.
+//! `compare DRIVE REFERENCE [N [FIRST_SEED]]`; without N as many as the gate plays.
 
 use std::path::PathBuf;
 use std::process::ExitCode;
@@ -8,6 +8,7 @@ use std::sync::Mutex;
 use trials::generate;
 use trials::programs::{count, first_seed, present, Scratch};
 use trials::trace;
+use trials::GATE_SCRIPTS;
 
 const WORKERS: usize = 2;
 /// Script lines shown before a difference.
@@ -57,17 +58,17 @@ fn main() -> ExitCode {
 }
 
 fn job(arguments: &[String]) -> Result<Job, String> {
-    let [scripts, drive, reference, rest @ ..] = arguments else {
-        return Err("usage: compare N DRIVE REFERENCE [FIRST_SEED]".into());
+    let [drive, reference, rest @ ..] = arguments else {
+        return Err("usage: compare DRIVE REFERENCE [N [FIRST_SEED]]".into());
     };
-    if rest.len() > 1 {
+    if rest.len() > 2 {
         return Err("more than one first seed".into());
     }
     Ok(Job {
-        scripts: count(scripts)?,
+        scripts: rest.first().map_or(Ok(GATE_SCRIPTS), |text| count(text))?,
         drive: present(drive)?,
         reference: present(reference)?,
-        first: first_seed(rest.first())?,
+        first: first_seed(rest.get(1))?,
     })
 }
 
