@@ -10,6 +10,8 @@ use std::time::{Duration, Instant};
 pub trait Player: Clone {
     type Answer;
     fn start(image: &[u8; 256]) -> Self;
+    /// A start into the place of a switch that there is.
+    fn start_over(&mut self, image: &[u8; 256]);
     fn press(&mut self, contact: u8, out: &mut [u8]) -> Self::Answer;
     fn release(&mut self, contact: u8, out: &mut [u8]) -> Self::Answer;
     fn tick(&mut self, out: &mut [u8]) -> Self::Answer;
@@ -20,13 +22,18 @@ pub trait Player: Clone {
 }
 
 macro_rules! player {
-    ($home:ident, $told:expr) => {
+    ($home:ident, $start_over:expr, $told:expr) => {
         impl Player for $home::Switch {
             type Answer = $home::Answer;
             fn start(image: &[u8; 256]) -> Self {
                 let started = $home::Switch::start(black_box(image));
                 black_box(&started);
-                started.expect("the image has 256 bytes").0
+                started.expect(WHOLE).0
+            }
+            fn start_over(&mut self, image: &[u8; 256]) {
+                let start_over: fn(&mut Self, &[u8; 256]) -> Self::Answer = $start_over;
+                let answer = start_over(black_box(self), black_box(image));
+                black_box(&answer);
             }
             fn press(&mut self, contact: u8, out: &mut [u8]) -> Self::Answer {
                 let answer = $home::Switch::press(black_box(self), black_box(contact), out);
@@ -66,12 +73,22 @@ macro_rules! player {
     };
 }
 
-player!(melszondru, |a| [
-    a.number(),
-    a.count() as u8,
-    a.mode().into()
-]);
-player!(reference, |a| [a.number, a.count, a.mode as u8]);
+const WHOLE: &str = "the image has 256 bytes";
+
+player!(
+    melszondru,
+    |switch, image| switch.start_over(image).expect(WHOLE),
+    |a| [a.number(), a.count() as u8, a.mode().into()]
+);
+player!(
+    reference,
+    |switch, image| {
+        let (started, answer) = reference::Switch::start(image).expect(WHOLE);
+        *switch = started;
+        answer
+    },
+    |a| [a.number, a.count, a.mode as u8]
+);
 
 #[derive(Clone, Copy, PartialEq, Eq)]
 pub enum Case {
@@ -86,10 +103,11 @@ pub enum Case {
     Factory,
     Set,
     Start,
+    StartOver,
     Restart,
 }
 
-pub const CASES: [(Case, &str); 12] = [
+pub const CASES: [(Case, &str); 13] = [
     (Case::Idle, "tick, idle"),
     (Case::Fading, "tick, fading"),
     (Case::Down, "tick, paddle down"),
@@ -100,7 +118,8 @@ pub const CASES: [(Case, &str); 12] = [
     (Case::BothSend, "tick, both paddles send"),
     (Case::Factory, "tick, into Factory Default"),
     (Case::Set, "packet, Set Registers of 16"),
-    (Case::Start, "start"),
+    (Case::Start, "start, by value"),
+    (Case::StartOver, "start, in place"),
     (Case::Restart, "restart"),
 ];
 
@@ -241,6 +260,10 @@ pub fn play<P: Player>(case: Case, from: &P, count: u64, act: bool) -> Duration 
         Case::Start => {
             let image = image();
             steady(from, events, |switch, _| *switch = P::start(&image))
+        }
+        Case::StartOver => {
+            let image = image();
+            steady(from, events, |switch, _| switch.start_over(&image))
         }
         Case::Restart => steady(from, events, |switch, out| _ = switch.restart(out)),
     }

@@ -123,6 +123,7 @@ impl Arrays {
         registers: [0; REGISTERS],
     };
 
+    #[inline]
     pub fn start(&mut self, image: &[u8]) -> Answer {
         // SAFETY: pointer and length are those of the borrowed `image`; the arrays are fields of the exclusively borrowed `self`,
         // each another one, so nothing overlaps.

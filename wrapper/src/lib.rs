@@ -100,6 +100,26 @@ impl Switch {
         Ok((switch, answer))
     }
 
+    /// A start where the switch stands, with nothing moved: as [`start`](Switch::start) from the image, of what ran here nothing is
+    /// left. Refused by [`WrongImage`](Refusal::WrongImage), the switch runs on as it was.
+    ///
+    /// ```
+    /// use melszondru::{Refusal, Switch};
+    ///
+    /// let (mut switch, _) = Switch::start(&[0; 256])?;
+    /// let mut image = switch.image();
+    /// image[0xF9] = 40; // the saved level, in percent
+    /// assert_eq!(switch.start_over(&image)?.level(), 80);
+    /// assert_eq!(switch, Switch::start(&image)?.0);
+    /// assert_eq!(switch.start_over(&[0; 255]), Err(Refusal::WrongImage));
+    /// assert_eq!(switch, Switch::start(&image)?.0);
+    /// # Ok::<(), Refusal>(())
+    /// ```
+    #[inline]
+    pub fn start_over(&mut self, image: &[u8]) -> Result<Answer, Refusal> {
+        self.0.start(image).done()
+    }
+
     /// A press edge of a contact: 0 and 1 are the local ones, 2 and 3 the slave ones; even is top, odd is bottom. Sends nothing.
     /// Refused by 2 or 3.
     ///

@@ -1,5 +1,5 @@
 //! What the counters, the numbers and the paddles' bytes of a switch stand for: `coreOf`, `passwordOf` and `paddlesOf` of
-//! crates/state/specs, part by part. Bytes and bits that mean nothing are not read.
+//! crates/state/specs and crates/panel/specs, part by part. Bytes and bits that mean nothing are not read.
 
 use crate::boundary::{Counters, Numbers, Paddles};
 use crate::{Colour, Mode, PADDLES};

@@ -1,39 +1,23 @@
--- What callers use of works and gestures: what they write, which mode they leave, and that the level stays within its range.
-use mathlib.Core.Path.{_≡_, refl, ap, _∙_}
+-- What callers use of the core: which paddles drive the load, and that the level stays within its range.
+use mathlib.Core.Path.{_≡_}
 use mathlib.Core.List.{List}
 use mathlib.Core.Bool.{true}
 use Prim.Native.Nat.{ℕ, _≤_, _<_, _%_}
 use native.Mathlib.Omega.{arith}
-use lib.Dec.{eqb, ltb}
-use borrow.Author.Tests.{eqb-true, lt-ltb}
-use Rattle.words.proofs.Laws.{both, cases}
+use lib.Dec.{ltb}
+use borrow.Author.Tests.{lt-ltb}
+use Rattle.words.proofs.Laws.{both}
 use Rattle.units.specs.Units.{percent}
 use Rattle.units.proofs.Laws.{step-within}
 use Rattle.units.specs.declared.Step.{Step}
-use Rattle.vault.specs.declared.Mode.{Mode}
-use Rattle.vault.specs.declared.Mode.the-variants.{Normal, Setup, Factory}
-use Rattle.dimmer.specs.Dimmer.{Within, optionsOf, stopped}
-use Rattle.dimmer.proofs.Laws.{fresh-within, set-within, stop-within, blink-within, tick-within}
+use Rattle.levels.specs.Levels.{optionsOf}
+use Rattle.dimmer.specs.Dimmer.{Within, stopped}
+use Rattle.dimmer.proofs.Laws.{fresh-within, set-within, stop-within, tick-within}
 use Rattle.dimmer.specs.declared.Dimmer.{Dimmer}
-use Rattle.judge.specs.declared.Work.{Work}
-use Rattle.judge.specs.declared.Work.the-variants as work
-use Rattle.judge.specs.declared.Drive.{Drive}
-use Rattle.judge.specs.declared.Drive.the-variants as drive
-use Rattle.paddle.specs.declared.Gesture.{Gesture}
-use Rattle.paddle.specs.declared.Gesture.the-variants.{Nothing, Taps, Hold, Release}
 use Rattle.model.specs.Model.{contactCount, drives, paddleOf}
-use Rattle.registers.specs.Places.{dimmingIn, savedIn, componentIn}
-use Rattle.registers.specs.declared.places.Counter.the-variants.{Setups}
-use Rattle.registers.specs.declared.write.Write.{Write}
-use Rattle.registers.specs.declared.write.Write.the-variants.{Count, Factory as FactoryValues, Nothing as Unwritten}
-use Rattle.acts.specs.Core
-use Rattle.acts.specs.Core.{effect, unwritten, startLevel, started, aged, setBy, loaded, setting, halted, stopping, entering, opened}
-use Rattle.acts.specs.Orders.{driven, performed}
-use Rattle.acts.specs.Gestures
-use Rattle.acts.specs.Gestures.{far, byAction, holding, tapsInNormal, tapsInSetup, tapsInFactory, actedInNormal, actedInSetup, actedInFactory, actedIn, acted}
+use Rattle.places.specs.Places.{dimmingIn, savedIn}
+use Rattle.acts.specs.Core.{startLevel, started, aged, setBy, loaded, setting, halted, stopping}
 use Rattle.acts.specs.declared.Core.{Core}
-use Rattle.acts.specs.declared.Effect.{Effect}
-use Rattle.acts.specs.Code.{workWrites, workLeads}
 
 -- The paddle of every contact of this model drives the load, and a paddle that does stops what runs.
 pub contact-drives : (contact : ℕ) → contact < contactCount → drives (paddleOf contact) ≡ true
@@ -43,126 +27,6 @@ contact-drives contact known = lt-ltb (contact % 2) 2 (omega arith)
 pub driver-halts : (paddle : ℕ) (d : Dimmer) → drives paddle ≡ true → halted paddle d ≡ stopped d
 unfolding halted loaded
 driver-halts paddle d drive = rw drive
-
--- No gesture, no act.
-nothing-in : (mode : Mode) (all : List ℕ) (paddle : ℕ) (c : Core) → actedIn mode all paddle Nothing c ≡ unwritten c
-unfolding actedIn actedInNormal actedInSetup actedInFactory
-nothing-in Normal all paddle c = refl
-nothing-in Setup all paddle c = refl
-nothing-in Factory all paddle c = refl
-
-pub nothing-acts : (all : List ℕ) (paddle : ℕ) (c : Core) → acted all paddle Nothing c ≡ unwritten c
-unfolding acted
-nothing-acts all paddle c = nothing-in (c .mode) all paddle c
-
--- What a gesture writes, and which mode it leaves.
-module _ (all : List ℕ) (paddle : ℕ) (c : Core) where
-  taps-write-in-normal : (n : ℕ) → tapsInNormal all paddle n c .write ≡ Gestures.writes Normal (Taps n)
-  unfolding tapsInNormal Gestures.writes unwritten opened
-  taps-write-in-normal n =
-      cases Says (eqb n 1) (λ h. rw (eqb-true n 1 h)) (λ _. cases Says (eqb n 2) (λ h. rw (eqb-true n 2 h)) (λ _. cases Says (eqb n 5) (λ h. rw h) (λ h. rw h)))
-    where
-      Says : Effect → Type 0
-      Says e = e .write ≡ Gestures.writes Normal (Taps n)
-
-  taps-write-in-setup : (n : ℕ) → tapsInSetup n c .write ≡ Gestures.writes Setup (Taps n)
-  unfolding tapsInSetup Gestures.writes unwritten
-  taps-write-in-setup n =
-      cases Says (eqb n 2) (λ h. rw (eqb-true n 2 h)) (λ _. cases Says (eqb n 10) (λ h. rw h) (λ h. rw h))
-    where
-      Says : Effect → Type 0
-      Says e = e .write ≡ Gestures.writes Setup (Taps n)
-
-  taps-write-in-factory : (n : ℕ) → tapsInFactory all paddle n c .write ≡ Unwritten
-  unfolding tapsInFactory unwritten
-  taps-write-in-factory n = both Says (eqb n 1) refl (both Says (eqb n 2) refl refl)
-    where
-      Says : Effect → Type 0
-      Says e = e .write ≡ Unwritten
-
-  writes-in : (mode : Mode) (g : Gesture) → actedIn mode all paddle g c .write ≡ Gestures.writes mode g
-  unfolding actedIn actedInNormal actedInSetup actedInFactory Gestures.writes unwritten
-  writes-in Normal Nothing = refl
-  writes-in Normal (Taps n) = taps-write-in-normal n
-  writes-in Normal Hold = refl
-  writes-in Normal Release = refl
-  writes-in Setup Nothing = refl
-  writes-in Setup (Taps n) = taps-write-in-setup n
-  writes-in Setup Hold = refl
-  writes-in Setup Release = refl
-  writes-in Factory Nothing = refl
-  writes-in Factory (Taps n) = taps-write-in-factory n
-  writes-in Factory Hold = refl
-  writes-in Factory Release = refl
-
-pub gesture-writes : (all : List ℕ) (paddle : ℕ) (g : Gesture) (c : Core) → acted all paddle g c .write ≡ Gestures.writes (c .mode) g
-unfolding acted
-gesture-writes all paddle g c = writes-in all paddle c (c .mode) g
-
-holding-mode : (all : List ℕ) (paddle : ℕ) (c : Core) → holding all paddle c .mode ≡ c .mode
-unfolding holding setting
-holding-mode all paddle c = both (λ (d : Core). d .mode ≡ c .mode) (optionsOf (dimmingIn all) .capable) refl refl
-
-module _ (all : List ℕ) (paddle : ℕ) (c : Core) where
-  taps-lead-in-normal : (n : ℕ) → c .mode ≡ Normal → tapsInNormal all paddle n c .core .mode ≡ Gestures.leads Normal (Taps n)
-  unfolding tapsInNormal Gestures.leads unwritten opened entering byAction setting
-  taps-lead-in-normal n e =
-      cases Says (eqb n 1) (λ h. rw (eqb-true n 1 h) e) (λ _. cases Says (eqb n 2) (λ h. rw (eqb-true n 2 h) e) (λ _. cases Says (eqb n 5) (λ h. rw h) (λ h. rw h e)))
-    where
-      Says : Effect → Type 0
-      Says f = f .core .mode ≡ Gestures.leads Normal (Taps n)
-
-  taps-lead-in-setup : (n : ℕ) → c .mode ≡ Setup → tapsInSetup n c .core .mode ≡ Gestures.leads Setup (Taps n)
-  unfolding tapsInSetup Gestures.leads unwritten entering
-  taps-lead-in-setup n e =
-      cases Says (eqb n 2) (λ h. rw h) (λ h. cases Says (eqb n 10) (λ k. rw (h, k)) (λ k. rw (h, k) e))
-    where
-      Says : Effect → Type 0
-      Says f = f .core .mode ≡ Gestures.leads Setup (Taps n)
-
-  taps-lead-in-factory : (n : ℕ) → c .mode ≡ Factory → tapsInFactory all paddle n c .core .mode ≡ Gestures.leads Factory (Taps n)
-  unfolding tapsInFactory Gestures.leads unwritten entering byAction setting
-  taps-lead-in-factory n e =
-      cases Says (eqb n 1) (λ h. rw (eqb-true n 1 h) e) (λ _. cases Says (eqb n 2) (λ h. rw h) (λ h. rw h e))
-    where
-      Says : Effect → Type 0
-      Says f = f .core .mode ≡ Gestures.leads Factory (Taps n)
-
-  leads-in : (mode : Mode) (g : Gesture) → c .mode ≡ mode → actedIn mode all paddle g c .core .mode ≡ Gestures.leads mode g
-  unfolding actedIn actedInNormal actedInSetup actedInFactory Gestures.leads unwritten stopping
-  leads-in Normal Nothing e = e
-  leads-in Normal (Taps n) e = taps-lead-in-normal n e
-  leads-in Normal Hold e = holding-mode all paddle c ∙ e
-  leads-in Normal Release e = e
-  leads-in Setup Nothing e = e
-  leads-in Setup (Taps n) e = taps-lead-in-setup n e
-  leads-in Setup Hold e = e
-  leads-in Setup Release e = e
-  leads-in Factory Nothing e = e
-  leads-in Factory (Taps n) e = taps-lead-in-factory n e
-  leads-in Factory Hold e = holding-mode all paddle c ∙ e
-  leads-in Factory Release e = e
-
-pub gesture-leads : (all : List ℕ) (paddle : ℕ) (g : Gesture) (c : Core) → acted all paddle g c .core .mode ≡ Gestures.leads (c .mode) g
-unfolding acted
-gesture-leads all paddle g c = leads-in all paddle c (c .mode) g refl
-
--- What a work writes, and which mode it leaves.
-pub work-writes : (all : List ℕ) (w : Work) (c : Core) → performed all w c .write ≡ workWrites w (c .dimmer .level)
-unfolding performed workWrites unwritten
-work-writes all work.Report c = refl
-work-writes all work.Close c = refl
-work-writes all (work.Set first) c = refl
-work-writes all (work.Store i) c = refl
-work-writes all (work.Drive d) c = refl
-
-pub work-leads : (all : List ℕ) (w : Work) (c : Core) → performed all w c .core .mode ≡ workLeads w (c .mode)
-unfolding performed workLeads unwritten entering
-work-leads all work.Report c = refl
-work-leads all work.Close c = refl
-work-leads all (work.Set first) c = refl
-work-leads all (work.Store i) c = refl
-work-leads all (work.Drive d) c = refl
 
 -- Level and Last On Level stay within 0 to 200, whatever is done.
 abbrev pub Ranged : Core → Type 0
@@ -176,92 +40,14 @@ pub age-ranged : (c : Core) → Ranged c → Ranged (aged c)
 unfolding aged
 age-ranged c = tick-within (c .dimmer)
 
-set-ranged : (all : List ℕ) (level rate : ℕ) (d : Dimmer) → Within d → Within (setBy all level rate d)
+pub set-ranged : (all : List ℕ) (level rate : ℕ) (d : Dimmer) → Within d → Within (setBy all level rate d)
 unfolding setBy
 set-ranged all level rate d = set-within d level rate (optionsOf (dimmingIn all))
 
-setting-ranged : (all : List ℕ) (paddle level rate : ℕ) (c : Core) → Ranged c → Ranged (setting all paddle level rate c)
+pub setting-ranged : (all : List ℕ) (paddle level rate : ℕ) (c : Core) → Ranged c → Ranged (setting all paddle level rate c)
 unfolding setting loaded
 setting-ranged all paddle level rate c w = both Within (drives paddle) (set-ranged all level rate (c .dimmer) w) w
 
-stopping-ranged : (paddle : ℕ) (c : Core) → Ranged c → Ranged (stopping paddle c)
+pub stopping-ranged : (paddle : ℕ) (c : Core) → Ranged c → Ranged (stopping paddle c)
 unfolding stopping halted loaded
 stopping-ranged paddle c w = both Within (drives paddle) (stop-within (c .dimmer) w) w
-
-drive-ranged : (all : List ℕ) (o : Drive) (d : Dimmer) → Within d → Within (driven all o d)
-unfolding driven
-drive-ranged all (drive.Activate i) d = set-ranged all (componentIn all i .level) (componentIn all i .rate) d
-drive-ranged all (drive.Deactivate i) d = set-ranged all 0 (componentIn all i .rate) d
-drive-ranged all (drive.Goto level rate) d = set-ranged all level rate d
-drive-ranged all drive.Stop d = stop-within d
-drive-ranged all (drive.Blink value) d = blink-within d value
-
-pub work-ranged : (all : List ℕ) (w : Work) (c : Core) → Ranged c → Ranged (performed all w c .core)
-unfolding performed unwritten entering
-work-ranged all work.Report c k = k
-work-ranged all work.Close c k = k
-work-ranged all (work.Set first) c k = k
-work-ranged all (work.Store i) c k = k
-work-ranged all (work.Drive d) c k = drive-ranged all d (c .dimmer) k
-
--- What a gesture can leave: what holds of each of these holds of every act of a paddle.
-module _ (P : Effect → Type 0) (all : List ℕ) (paddle : ℕ) (c : Core) where
-  pub record Acts : Type 0 where
-    pub nothing : P (unwritten c)
-    pub sets : (level rate : ℕ) → P (unwritten (setting all paddle level rate c))
-    pub stops : P (unwritten (stopping paddle c))
-    pub opens : P (opened c)
-    pub leaves : P (unwritten (entering Normal c))
-    pub resets : P (effect (entering Factory c) FactoryValues)
-
-  module _ (a : Acts) where
-    holds : P (unwritten (holding all paddle c))
-    unfolding holding
-    holds = both (λ (d : Core). P (unwritten d)) (optionsOf (dimmingIn all) .capable) (a .sets (far paddle) 255) (a .nothing)
-
-    acts-in : (mode : Mode) (g : Gesture) → P (actedIn mode all paddle g c)
-    unfolding actedIn actedInNormal actedInSetup actedInFactory tapsInNormal tapsInSetup tapsInFactory byAction
-    acts-in Normal Nothing = a .nothing
-    acts-in Normal (Taps n) =
-        both P (eqb n 1) (a .sets _ _) (both P (eqb n 2) (a .sets _ _) (both P (eqb n 5) (a .opens) (a .nothing)))
-    acts-in Normal Hold = holds
-    acts-in Normal Release = a .stops
-    acts-in Setup Nothing = a .nothing
-    acts-in Setup (Taps n) = both P (eqb n 2) (a .leaves) (both P (eqb n 10) (a .resets) (a .nothing))
-    acts-in Setup Hold = a .nothing
-    acts-in Setup Release = a .nothing
-    acts-in Factory Nothing = a .nothing
-    acts-in Factory (Taps n) = both P (eqb n 1) (a .sets _ _) (both P (eqb n 2) (a .leaves) (a .nothing))
-    acts-in Factory Hold = holds
-    acts-in Factory Release = a .stops
-
-    pub every-act : (g : Gesture) → P (acted all paddle g c)
-    unfolding acted
-    every-act g = acts-in (c .mode) g
-
-pub gesture-ranged : (all : List ℕ) (paddle : ℕ) (g : Gesture) (c : Core) → Ranged c → Ranged (acted all paddle g c .core)
-unfolding unwritten opened entering
-gesture-ranged all paddle g c w =
-    every-act (λ e. Ranged (e .core)) all paddle c
-    (record { nothing = w; sets = λ level rate. setting-ranged all paddle level rate c w; stops = stopping-ranged paddle c w; opens = w; leaves = w; resets = w }) g
-
--- A gesture leaves the count of the 480 ticks alone.
-pub gesture-save : (all : List ℕ) (paddle : ℕ) (g : Gesture) (c : Core) → acted all paddle g c .core .save ≡ c .save
-unfolding unwritten setting stopping opened entering
-gesture-save all paddle g c =
-    every-act (λ e. e .core .save ≡ c .save) all paddle c
-    (record { nothing = refl; sets = λ level rate. refl; stops = refl; opens = refl; leaves = refl; resets = refl }) g
-
--- A gesture writes nothing, or counts a Setup entry by five taps in Normal, or sets the factory values by ten in Setup.
-pub writes-by : (P : Write → Type 0) (mode : Mode) (g : Gesture) → P Unwritten → (mode ≡ Normal → g ≡ Taps 5 → P (Count Setups))
-    → (mode ≡ Setup → g ≡ Taps 10 → P FactoryValues) → P (Gestures.writes mode g)
-unfolding Gestures.writes
-writes-by P Normal Nothing none five ten = none
-writes-by P Normal (Taps n) none five ten = cases P (eqb n 5) (λ e. five refl (ap Taps (eqb-true n 5 e))) (λ _. none)
-writes-by P Normal Hold none five ten = none
-writes-by P Normal Release none five ten = none
-writes-by P Setup Nothing none five ten = none
-writes-by P Setup (Taps n) none five ten = cases P (eqb n 10) (λ e. ten refl (ap Taps (eqb-true n 10 e))) (λ _. none)
-writes-by P Setup Hold none five ten = none
-writes-by P Setup Release none five ten = none
-writes-by P Factory g none five ten = none

@@ -8,17 +8,17 @@ use Rattle.units.specs.Units.{off, percent, stepOf, percentOf}
 use Rattle.units.specs.declared.Step.{Step}
 use Rattle.vault.specs.declared.Mode.{Mode}
 use Rattle.vault.specs.declared.Mode.the-variants.{Normal, Setup}
-use Rattle.dimmer.specs.Dimmer.{optionsOf, setTo, stopped, ticked}
-use Rattle.dimmer.specs.Dimmer.{freshDimmer}
+use Rattle.levels.specs.Levels.{optionsOf}
+use Rattle.dimmer.specs.Dimmer.{setTo, stopped, ticked, freshDimmer}
 use Rattle.dimmer.specs.declared.Dimmer.{Dimmer}
 use Rattle.lamp.specs.Lamp.{freshLamp, entered as flashed, nextLamp, signalSet}
 use Rattle.lamp.specs.declared.Lamp.{Lamp}
 use Rattle.lamp.specs.declared.Colour.{Colour}
 use Rattle.model.specs.Model.{drives}
-use Rattle.registers.specs.Places.{dimmingIn, savedIn}
-use Rattle.registers.specs.declared.write.Write.{Write}
-use Rattle.registers.specs.declared.write.Write.the-variants.{Nothing, Count, Save}
-use Rattle.registers.specs.declared.places.Counter.the-variants.{Setups}
+use Rattle.places.specs.Places.{dimmingIn, savedIn}
+use Rattle.writes.specs.declared.Write.{Write}
+use Rattle.writes.specs.declared.Write.the-variants.{Nothing, Count, Save}
+use Rattle.places.specs.declared.Counter.the-variants.{Setups}
 use Rattle.acts.specs.declared.Core.{Core}
 use Rattle.acts.specs.declared.Effect.{Effect}
 

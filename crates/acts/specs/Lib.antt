@@ -1,4 +1,1 @@
 pub mod Core
-pub mod Orders
-pub mod Gestures
-pub mod Code

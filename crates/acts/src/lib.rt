@@ -1,19 +1,17 @@
-// What a tick, a packet's order and a paddle's gesture do to the core of a switch. The registers are only read here; what is
-// to be written to them comes back.
+// The core of a switch, and what a tick, a level set, a stop and a new mode make of it. The registers are only read here; what
+// is to be written to them comes back.
 ghost use mathlib.Core.Path.{_≡_};
-ghost use Rattle.acts.specs.Core.{unwritten, startLevel, started, aged, toSave, saved, setBy, setting, halted, stopping, entering, signalled, opened};
+ghost use Rattle.timers.specs.Timers.{metronome};
+ghost use Rattle.acts.specs.Core.{saveTicks, unwritten, startLevel, started, aged, toSave, saved, setBy, setting, halted, stopping, entering, signalled, opened};
 use dimmer::Dimmer;
-use dimmer::Options;
 use lamp::Colour;
 use lamp::Lamp;
-use registers::places::Counter;
-use registers::write::Write;
+use levels::Options;
+use places::Counter;
 use units::Percent;
 use units::Step;
 use vault::Mode;
-
-pub mod gestures;
-pub mod orders;
+use writes::Write;
 
 // Ticks from one saving of the level to the next.
 const SAVE: u16 = 480;
@@ -37,7 +35,7 @@ impl Core {
     pub fn started(all: &[u8; 256]) -> Core
         ensures { λ r. ⌜ r ≡ started (now (all .entry)) ⌝ }
     {
-        let level = start_level(registers::places::saved(all));
+        let level = start_level(places::saved(all));
         Core {
             mode: Mode::Normal,
             dimmer: Dimmer::fresh(level),
@@ -60,7 +58,7 @@ impl Core {
         ensures { λ r. ⌜ r ≡ saved self ⌝ }
     {
         let write = self.to_save();
-        self.save = timers::turn(SAVE, self.save);
+        self.save = next_save(self.save);
         Effect { core: self, write }
     }
 
@@ -85,7 +83,7 @@ impl Core {
     }
 
     // A paddle sets a level, where it drives the load.
-    fn setting(mut self, all: &[u8; 256], paddle: u8, level: u8, rate: u8) -> Core
+    pub fn setting(mut self, all: &[u8; 256], paddle: u8, level: u8, rate: u8) -> Core
         ensures { λ r. ⌜ r ≡ setting (now (all .entry)) paddle level rate self ⌝ }
     {
         if model::drives(paddle) {
@@ -95,7 +93,7 @@ impl Core {
         self
     }
 
-    fn stopping(mut self, paddle: u8) -> Core
+    pub fn stopping(mut self, paddle: u8) -> Core
         ensures { λ r. ⌜ r ≡ stopping paddle self ⌝ }
     {
         self.dimmer = halted(self.dimmer, paddle);
@@ -112,7 +110,7 @@ impl Core {
     }
 
     // A mode change: the flash and the mode blinks begin.
-    fn entering(self, mode: Mode) -> Core
+    pub fn entering(self, mode: Mode) -> Core
         ensures { λ r. ⌜ r ≡ entering mode self ⌝ }
     {
         let dimmer = self.dimmer;
@@ -136,11 +134,18 @@ impl Core {
     }
 }
 
+// The metronome of the saved level, one tick later.
+pub fn next_save(save: u16) -> u16
+    ensures { λ r. ⌜ r ≡ metronome saveTicks save ⌝ }
+{
+    timers::turn(SAVE, save)
+}
+
 // Sets a level by what 0x8D says now.
 pub fn set_by(dimmer: Dimmer, all: &[u8; 256], level: u8, rate: u8) -> Dimmer
     ensures { λ r. ⌜ r ≡ setBy (now (all .entry)) level rate dimmer ⌝ }
 {
-    let options = Options::of(registers::places::dimming(all));
+    let options = Options::of(places::dimming(all));
     dimmer.set(level, rate, options)
 }
 

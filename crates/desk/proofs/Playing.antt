@@ -1,40 +1,35 @@
 -- What the proofs of `play` lean on: starts and events over what their callees promise, and equal rows.
-use Prim.Native.Nat.{ℕ, suc, _+_, _<_, min}
+use Prim.Native.Nat.{ℕ, suc, _+_, _<_}
 use native.Mathlib.Numerals.{add-one}
-use native.Mathlib.Omega.{arith}
-use mathlib.Core.Bool.{Bool, true, false, not, _&&_, and-false, false≢true}
-use mathlib.Core.List.{List, [], _∷_, _++_}
-use mathlib.Core.Path.{_≡_, refl, sym, ap, _∙_}
+use mathlib.Core.Bool.{Bool, true, false, _&&_, and-false, false≢true}
+use mathlib.Core.List.{List, [], _∷_}
+use mathlib.Core.Path.{_≡_, refl, ap, _∙_}
 use borrow.Author.Tests.{eq-eqb, eqb-true}
 use types.Run.{OneOf, miss}
 use denote.Enum.Declared.{tagOf}
 use lib.Dec.{eqb}
-use lib.ListN.{length, getD, set, take, drop, replicate, length-append, length-replicate, length-take, replicate-append-replicate, take-append-drop, drop-of-length-le}
-use lib.Seq.{drop-cons, take-all, take-at, take-suc-set}
+use lib.ListN.{length, getD, drop}
+use lib.Seq.{drop-cons}
 use Rattle.words.specs.Words.{if_then_else_}
-use Rattle.words.proofs.Laws.{two-ways}
 use Rattle.vault.specs.Job.{Switch, switch}
-use Rattle.model.specs.Model.{paddleCount, place}
-use Rattle.post.specs.Post.{placed}
-use Rattle.post.proofs.Laws.{placed-length}
-use Rattle.state.specs.Paddles.{byteCount}
+use Rattle.model.specs.Model.{paddleCount}
+use Rattle.panel.specs.Panel.{byteCount}
 use Rattle.state.specs.Code.{Sized}
-use Rattle.state.proofs.Laws.{core-back, password-back, paddles-back}
-use Rattle.switch.specs.Switch.{Plain, plain, Deed, event, switchOf, answerOf, answerWith}
-use Rattle.switch.specs.Respond.{respond, Starts, Responds, whole, startAnswer, startedFrom}
-use Rattle.switch.specs.declared.Answer.{Answer}
-use Rattle.line.specs.Writing.{Page, puts, fill, started, answered, none}
-use Rattle.line.specs.declared.read.Line.{Line}
-use Rattle.line.specs.declared.read.Line.the-variants.{Pass, Unread, Image, Room, Press, Release, Ticks, Packet, Restart, Dump}
-use Rattle.line.proofs.read.Line.{the-type}
-use Rattle.desk.specs.declared.play.Desk.{Desk}
-use Rattle.desk.specs.declared.play.Event.{Event}
-use Rattle.switch.specs.Switch.{Arrays, arrays, switchIn, keptIn}
-use Rattle.desk.specs.Playing.{cleared, Done, done, scene, sceneOf, filled, deedOf, happened, told, begun, ticksOf, same, Plays}
-
--- One byte more is filled.
-pub filled-next : (out : List ℕ) (i : ℕ) → i < length out → take i out ≡ replicate i fill → take (i + 1) (set out i fill) ≡ replicate (i + 1) fill
-filled-next out i h e = rw add-one (take-suc-set out i fill h ∙ rw (e, replicate-append-replicate {A = ℕ} i 1 fill, add-one))
+use Rattle.state.proofs.Laws.{core-back, password-back}
+use Rattle.panel.proofs.Laws.{paddles-back}
+use Rattle.switch.specs.Switch.{Plain, plain, answerOf, answerWith, Arrays, arrays, switchIn, keptIn}
+use Rattle.switch.specs.Respond.{Starts, whole, startAnswer, startedFrom}
+use Rattle.answers.specs.declared.Answer.{Answer}
+use Rattle.page.specs.Page.{Page, puts}
+use Rattle.ledger.specs.Writing.{started, answered}
+use Rattle.line.specs.declared.Line.{Line}
+use Rattle.line.specs.declared.Line.the-variants.{Pass, Unread, Image, Room, Press, Release, Ticks, Packet, Restart, Dump}
+use Rattle.line.proofs.Line.{the-type}
+use Rattle.stage.specs.declared.Desk.{Desk}
+use Rattle.stage.specs.Stage.{scene, sceneOf, deedOf, told, Plays, Scene, letterOf}
+use Rattle.desk.specs.Playing.{cleared, begun, ticksOf, same, played, eventOf}
+use Rattle.stage.specs.declared.Event.the-variants as happens
+use Rattle.stage.specs.declared.Event.{Event}
 
 -- Rows of different lengths are not equal.
 pub other-length : (a b : List ℕ) → (length a ≡ length b → ⊥) → same a b ≡ false
@@ -91,69 +86,42 @@ begins image desk c n l all c′ n′ l′ all′ answer page page′ start wrot
       written = wrote ∙ rw (start .answered);
     }
 
--- No more bytes are lent than there are: those in front, and those behind.
-lent : (n : ℕ) (buffer : List ℕ) → (take (min n (length buffer)) buffer ≡ take n buffer) × (drop (min n (length buffer)) buffer ≡ drop n buffer)
-lent n buffer =
-    two-ways n (length buffer) (λ h. let e : min n (length buffer) ≡ n = omega arith in (rw e, rw e))
-    (λ h. let e : min n (length buffer) ≡ length buffer = omega arith in
-    (rw (e, take-all n buffer h, take-all (length buffer) buffer (omega arith)), rw (e, drop-of-length-le buffer {i = n} h, drop-of-length-le buffer {i = length buffer} (omega arith))))
+-- For a line that is no event, and for a restart, the code has a restart.
+pub no-event : (line : Line) → OneOf (0 ∷ 1 ∷ 2 ∷ 3 ∷ 6 ∷ 8 ∷ 9 ∷ []) (tagOf the-type line) → eventOf line ≡ happens.Restart
+unfolding eventOf
+no-event Pass k = refl
+no-event Unread k = refl
+no-event (Image n) k = refl
+no-event (Room n) k = refl
+no-event (Press n) k = absurd (miss (0 ∷ 1 ∷ 2 ∷ 3 ∷ 6 ∷ 8 ∷ 9 ∷ []) 4 tt k)
+no-event (Release n) k = absurd (miss (0 ∷ 1 ∷ 2 ∷ 3 ∷ 6 ∷ 8 ∷ 9 ∷ []) 5 tt k)
+no-event (Ticks n) k = refl
+no-event (Packet n) k = absurd (miss (0 ∷ 1 ∷ 2 ∷ 3 ∷ 6 ∷ 8 ∷ 9 ∷ []) 7 tt k)
+no-event Restart k = refl
+no-event Dump k = refl
 
--- Packets are laid into the buffer, and it keeps its length.
-laid-length : (sent : List (List ℕ)) (before : List ℕ) → length (placed sent before) ≡ length before
-unfolding placed
-laid-length [] before = refl
-laid-length (p ∷ rest) before =
-    rw (length-append, placed-length p (take place before), laid-length rest (drop place before), ← length-append, take-append-drop place before)
+-- A line that is an event does what its event does.
+event-line : (number : ℕ) (line : Line) (bytes : List ℕ) (s : Scene) → OneOf (4 ∷ 5 ∷ 7 ∷ 8 ∷ []) (tagOf the-type line)
+    → played number line bytes s ≡ told (letterOf (eventOf line)) (deedOf (eventOf line) bytes) s
+unfolding played eventOf
+event-line number Pass bytes s k = absurd (miss (4 ∷ 5 ∷ 7 ∷ 8 ∷ []) 0 tt k)
+event-line number Unread bytes s k = absurd (miss (4 ∷ 5 ∷ 7 ∷ 8 ∷ []) 1 tt k)
+event-line number (Image n) bytes s k = absurd (miss (4 ∷ 5 ∷ 7 ∷ 8 ∷ []) 2 tt k)
+event-line number (Room n) bytes s k = absurd (miss (4 ∷ 5 ∷ 7 ∷ 8 ∷ []) 3 tt k)
+event-line number (Press n) bytes s k = refl
+event-line number (Release n) bytes s k = refl
+event-line number (Ticks n) bytes s k = absurd (miss (4 ∷ 5 ∷ 7 ∷ 8 ∷ []) 6 tt k)
+event-line number (Packet n) bytes s k = refl
+event-line number Restart bytes s k = refl
+event-line number Dump bytes s k = absurd (miss (4 ∷ 5 ∷ 7 ∷ 8 ∷ []) 9 tt k)
 
-module _ (deed : Deed) (desk : Desk) (c n l all buffer c′ n′ l′ all′ out : List ℕ) (room : ℕ) (answer : Answer) where
-  -- As many bytes as were lent are there after the event.
-  pub still-lent : room ≡ min (desk .room) (length buffer) → Responds deed c n l all (filled (take room buffer)) answer c′ n′ l′ all′ out → length out ≡ room
-  still-lent least responds =
-      ap length (responds .bytes) ∙ laid-length _ (filled (take room buffer)) ∙ rw (length-replicate, length-take) (omega arith)
-
-  -- An event: the switch after it, the lent bytes in front of the others, and what is written.
-  pub plays : (say : Answer → List ℕ → List ℕ) (page page′ : Page) → room ≡ min (desk .room) (length buffer)
-      → Responds deed c n l all (filled (take room buffer)) answer c′ n′ l′ all′ out
-      → page′ ≡ puts (say answer (take room (out ++ drop room buffer))) page
-      → Plays (happened say deed (sceneOf desk c n l all buffer)) page desk c′ n′ l′ all′ (out ++ drop room buffer) page′
-  unfolding happened
-  plays say page page′ least responds wrote =
-      let front : take room buffer ≡ take (desk .room) buffer = rw least (lent (desk .room) buffer .0) in
-      let behind : drop room buffer ≡ drop (desk .room) buffer = rw least (lent (desk .room) buffer .1) in
-      let own : Responds deed c n l all (filled (take (desk .room) buffer)) answer c′ n′ l′ all′ out = rw front at responds in
-      let response = respond (switchOf c n l all) (event (length (filled (take (desk .room) buffer))) deed) in
-      let bytes = placed (response .shown .sent) (filled (take (desk .room) buffer)) in
-      let said : take room (out ++ drop room buffer) ≡ bytes = take-at out (drop room buffer) room (still-lent least responds) ∙ own .bytes in
-      record {
-        after = λ i. scene (desk .there) (arrays (own .counted i) (own .numbered i) (own .moved i) (own .registers i)) (desk .room) (own .bytes i ++ behind i);
-        written = wrote ∙ ap (λ (t : List ℕ). puts t page) (ap (say answer) said ∙ ap (λ (a : Answer). say a bytes) (own .answered));
-      }
-
--- With no switch an event is told to nobody; with one, to that.
-module _ (letter : ℕ) (deed : Deed) (desk : Desk) (c n l all buffer : List ℕ) (page : Page) where
-  either : Bool → Done
-  either b = if b then done (sceneOf desk c n l all buffer) (none letter) else happened (answered letter) deed (sceneOf desk c n l all buffer)
-
-  pub absent : (page′ : Page) → not (desk .there) ≡ true → page′ ≡ puts (none letter) page
-      → Plays (told letter deed (sceneOf desk c n l all buffer)) page desk c n l all buffer page′
-  unfolding told either
-  absent page′ h wrote =
-      record { after = ap (λ (b : Bool). either b .after) (sym h); written = wrote ∙ ap (λ (b : Bool). puts (either b .text) page) (sym h) }
-
-  pub present : (c′ n′ l′ all′ buffer′ : List ℕ) (page′ : Page) → not (desk .there) ≡ false
-      → Plays (happened (answered letter) deed (sceneOf desk c n l all buffer)) page desk c′ n′ l′ all′ buffer′ page′
-      → Plays (told letter deed (sceneOf desk c n l all buffer)) page desk c′ n′ l′ all′ buffer′ page′
-  unfolding told either
-  present c′ n′ l′ all′ buffer′ page′ h p =
-      record { after = p .after ∙ ap (λ (b : Bool). either b .after) (sym h); written = p .written ∙ ap (λ (b : Bool). puts (either b .text) page) (sym h) }
-
--- An event happens with the lent bytes filled before it.
-pub happens : (e e′ : Event) (packet c n l all c′ n′ l′ all′ before filled-out out : List ℕ) (answer : Answer)
-    → e ≡ e′
-    → filled-out ≡ filled before
-    → Responds (deedOf e′ packet) c n l all filled-out answer c′ n′ l′ all′ out
-    → Responds (deedOf e packet) c n l all (filled before) answer c′ n′ l′ all′ out
-happens e e′ packet c n l all c′ n′ l′ all′ before filled-out out answer same-event filled-is responds = rw (same-event, ← filled-is) responds
+-- So the promise of the event is that of the line.
+pub told-line : (number : ℕ) (line : Line) (bytes : List ℕ) (s : Scene) (e : Event) (page page′ : Page) (desk : Desk) (c n l all buffer : List ℕ)
+    → OneOf (4 ∷ 5 ∷ 7 ∷ 8 ∷ []) (tagOf the-type line)
+    → e ≡ eventOf line
+    → Plays (told (letterOf e) (deedOf e bytes) s) page desk c n l all buffer page′
+    → Plays (played number line bytes s) page desk c n l all buffer page′
+told-line number line bytes s e page page′ desk c n l all buffer is e-is plays = rw (event-line number line bytes s is, ← e-is) plays
 
 -- Any line but `t` asks for no ticks.
 pub no-ticks : (line : Line) (there : Bool) → OneOf (0 ∷ 1 ∷ 2 ∷ 3 ∷ 4 ∷ 5 ∷ 7 ∷ 8 ∷ 9 ∷ []) (tagOf the-type line) → ticksOf line there ≡ 0
@@ -185,12 +153,3 @@ same-equal (byte ∷ a) (byte′ ∷ b) h = by-byte (eqb byte byte′) refl (sam
     by-byte : (r : Bool) → eqb byte byte′ ≡ r → (same a b ≡ true → a ≡ b) → (byte ∷ a) ≡ (byte′ ∷ b)
     by-byte true e rest = rw (eqb-true byte byte′ e, rest (rw e at h))
     by-byte false e rest = absurd (false≢true (rw e at h))
-
--- No two outcomes: what a line promises fixes the desk, every byte that is lent, and the page.
-pub one-outcome : (meant : Done) (page page₁ page₂ : Page) (desk₁ desk₂ : Desk) (c₁ n₁ l₁ all₁ buffer₁ c₂ n₂ l₂ all₂ buffer₂ : List ℕ)
-    → Plays meant page desk₁ c₁ n₁ l₁ all₁ buffer₁ page₁
-    → Plays meant page desk₂ c₂ n₂ l₂ all₂ buffer₂ page₂
-    → (desk₁ ≡ desk₂) × ((arrays c₁ n₁ l₁ all₁ ≡ arrays c₂ n₂ l₂ all₂) × ((buffer₁ ≡ buffer₂) × (page₁ ≡ page₂)))
-one-outcome meant page page₁ page₂ desk₁ desk₂ c₁ n₁ l₁ all₁ buffer₁ c₂ n₂ l₂ all₂ buffer₂ p q =
-    let e : sceneOf desk₁ c₁ n₁ l₁ all₁ buffer₁ ≡ sceneOf desk₂ c₂ n₂ l₂ all₂ buffer₂ = p .after ∙ sym (q .after) in
-    (λ i. record { there = e i .there; room = e i .room }, (λ i. e i .arrays, (λ i. e i .buffer, p .written ∙ sym (q .written))))

@@ -1,5 +1,5 @@
 -- What callers use of the dimmer: its closed form after n ticks, when a fade ends, and that nothing leaves 0 to 200.
-use mathlib.Core.Path.{_≡_, refl, ap}
+use mathlib.Core.Path.{_≡_, refl, sym, ap, _∙_}
 use mathlib.Core.Bool.{Bool, true, false}
 use Prim.Native.Nat.{ℕ, suc, _+_, _*_, _-_, _/_, _%_, _<_, _≤_, max}
 use native.Mathlib.Nat.{le-div-iff-mul-le, div-lt-iff-lt-mul}
@@ -13,12 +13,18 @@ use Rattle.timers.proofs.Laws.{turned-none, turned-more, beats-none, beats-more
 use Rattle.units.specs.Units.{step, full, off, percent, stepOf}
 use Rattle.units.proofs.Laws.{step-within}
 use Rattle.units.specs.declared.Step.{Step}
-use Rattle.dimmer.specs.declared.Options.{Options}
+use Rattle.levels.specs.declared.Options.{Options}
 use Rattle.dimmer.specs.declared.Motion.{Motion}
 use Rattle.dimmer.specs.declared.Motion.the-variants.{Idle, Fading, Blinking}
 use Rattle.dimmer.specs.declared.Dimmer.{Dimmer}
-use Rattle.dimmer.specs.Dimmer.{dimmer, ticksPerStep, wanted, freshDimmer, rateOf, allowed, remembered, headingTo, setTo, stoppedFrom, stopped, TargetWithin, Within, flipTicks, setBlinking, towards, stepped, flipped, faded, flickered, ticked, tickedFrom, distance, walked, gone, flippedBy, tickedByFrom, tickedBy}
+use Rattle.levels.specs.Levels.{ticksPerStep, wanted, rateOf, allowed, remembered, flipTicks}
+use Rattle.dimmer.specs.Dimmer.{dimmer, freshDimmer, headingTo, setTo, stoppedFrom, stopped, TargetWithin, Within, setBlinking, towards, stepped, flipped, faded, flickered, ticked, tickedFrom, distance, walked, gone, flippedBy, tickedByFrom, tickedBy}
 use Rattle.dimmer.specs.Code.{running, EndsAfter}
+
+-- A stop where nothing runs changes nothing.
+pub rests : (d : Dimmer) → d .motion ≡ Idle → d ≡ stopped d
+unfolding stopped stoppedFrom
+rests d idle = ap (dimmer (d .level) (d .last)) idle ∙ sym (ap (stoppedFrom (d .level) (d .last)) idle)
 
 -- No step: the level is as it was.
 walked-none : (level target : Step) → walked 0 level target ≡ level

@@ -1,14 +1,12 @@
 -- 01, Levels and fades: a level set, the fade or blink that moves it, a stop, and the ticks in between.
-use mathlib.Core.Bool.{Bool}
-use mathlib.Core.List.{List, [], _∷_}
-use Prim.Native.Nat.{ℕ, _+_, _-_, _*_, _/_, _%_, _≤_, max}
+use Prim.Native.Nat.{ℕ, _+_, _-_, _%_, _≤_, max}
 use lib.Dec.{ltb, eqb}
-use lib.ListN.{getD}
 use Rattle.words.specs.Words.{if_then_else_}
 use Rattle.timers.specs.Timers.{less, beats, metronome, metronomeBy, beatsBy}
-use Rattle.units.specs.Units.{step, full, off, percent, stepOf}
+use Rattle.units.specs.Units.{step, full, off}
 use Rattle.units.specs.declared.Step.{Step}
-use Rattle.dimmer.specs.declared.Options.{Options}
+use Rattle.levels.specs.Levels.{allowed, flipTicks, rateOf, remembered, ticksPerStep, wanted}
+use Rattle.levels.specs.declared.Options.{Options}
 use Rattle.dimmer.specs.declared.Motion.{Motion}
 use Rattle.dimmer.specs.declared.Motion.the-variants.{Idle, Fading, Blinking}
 use Rattle.dimmer.specs.declared.Dimmer.{Dimmer}
@@ -17,38 +15,9 @@ use Rattle.dimmer.specs.declared.Dimmer.{Dimmer}
 abbrev pub dimmer : Step → Step → Motion → Dimmer
 dimmer level last motion = record { level = level; last = last; motion = motion }
 
--- 01, Registers, 6: the options byte; its low four bits are a rate, the bit above them says whether the load can be dimmed.
-unfoldable pub optionsOf : ℕ → Options
-optionsOf byte = record { rate = byte % 16; capable = eqb (byte / 16 % 2) 1 }
-
--- 01, Levels and fades, 2: the ticks of one step at each rate from 0 on; at rate 0 the level is there at once.
-abbrev pub table : List ℕ
-table = 0 ∷ 1 ∷ 2 ∷ 4 ∷ 6 ∷ 8 ∷ 12 ∷ 24 ∷ 36 ∷ 72 ∷ 144 ∷ 360 ∷ 720 ∷ 1080 ∷ 2160 ∷ 4320 ∷ []
-
--- The ticks of one step at a rate; past 15 they are 0 (decision 42).
-unfoldable pub ticksPerStep : ℕ → ℕ
-ticksPerStep rate = getD table rate 0
-
--- 01, Levels and fades, 3: a level past 100 stands for the Last On Level, which is held in steps.
-unfoldable pub wanted : ℕ → Step → Step
-wanted level last = if ltb 100 level then last else stepOf (percent level)
-
 -- 01, Levels and fades, 3: the Last On Level is full after a start or restart; nothing runs.
 unfoldable pub freshDimmer : Step → Dimmer
 freshDimmer level = dimmer level full Idle
-
--- 01, Levels and fades, 4 and 5: a rate past 15 is the default one, and a missing rate is handed on as 255 (decision 57); a load
--- that cannot be dimmed has rate 0 alone.
-unfoldable pub rateOf : Options → ℕ → ℕ
-rateOf options asked = if options .capable then (if ltb 15 asked then options .rate else asked) else 0
-
--- 01, Levels and fades, 5: a load that cannot be dimmed is off or full.
-unfoldable pub allowed : Bool → Step → Step
-allowed capable target = if capable then target else (if eqb (target .0) 0 then target else full)
-
--- 01, Levels and fades, 7: the Last On Level is the latest target other than 0; by sentence 9 the same of the step at a stop.
-unfoldable pub remembered : Step → Step → Step
-remembered target last = if eqb (target .0) 0 then last else target
 
 -- A dimmer sent to a target: a fade begins where there is a way to go and time to take for it, else it is there at once.
 unfoldable pub headingTo : Step → Step → Step → ℕ → Dimmer
@@ -75,11 +44,6 @@ unfoldable pub stepped : Step → Step → Step → ℕ → Dimmer
 stepped level last target period =
     if eqb (towards level target .0) (target .0) then dimmer target last Idle
     else dimmer (towards level target) last (Fading target period (less period))
-
--- 01, Levels and fades, 10: a flip comes every four ticks times the value; 0 counts as 30, and a missing value is handed on as 0
--- (decision 57).
-unfoldable pub flipTicks : ℕ → ℕ
-flipTicks value = 4 * (if eqb value 0 then 30 else value)
 
 -- 01, Levels and fades, 10: a flip leads from off to full, and from any other step to off.
 unfoldable pub flipped : Step → Step

@@ -1,14 +1,13 @@
 // The dimmer: its level, the Last On Level, and what moves the level. Methods take the state and hand the next one back.
 ghost use mathlib.Core.Path.{_≡_};
-ghost use Rattle.dimmer.specs.Dimmer.{optionsOf, ticksPerStep, wanted, allowed, remembered, rateOf, headingTo, freshDimmer, setTo, stopped, flipTicks, setBlinking, towards, flipped, stepped, faded, flickered, ticked};
-use units::Percent;
+ghost use Rattle.dimmer.specs.Dimmer.{headingTo, freshDimmer, setTo, stopped, setBlinking, towards, flipped, stepped, faded, flickered, ticked};
+use levels::Options;
+use levels::allowed;
+use levels::blink_ticks;
+use levels::remembered;
+use levels::ticks;
+use levels::wanted;
 use units::Step;
-
-// Register 0x8D: what holds when a level is set.
-pub struct Options {
-    pub rate: u8,
-    pub capable: bool,
-}
 
 // What moves the level. `left` is the metronome of a fade's steps or a blink's flips.
 pub enum Motion {
@@ -29,53 +28,6 @@ pub struct Dimmer {
     pub level: Step,
     pub last: Step,
     pub motion: Motion,
-}
-
-// The ticks of one step by rate; at rate 0 the level is there at once.
-const TICKS: [u16; 16] = [
-    0,
-    1,
-    2,
-    4,
-    6,
-    8,
-    12,
-    24,
-    36,
-    72,
-    144,
-    360,
-    720,
-    1080,
-    2160,
-    4320,
-];
-
-impl Options {
-    // The low four bits are the default rate; the next says whether the load can be dimmed.
-    pub fn of(byte: u8) -> Options
-        ensures { λ r. ⌜ r ≡ optionsOf byte ⌝ }
-    {
-        let rate = byte & 15;
-        let capable = (byte >> 4) & 1;
-        Options {
-            rate,
-            capable: capable == 1,
-        }
-    }
-
-    // A rate past 15 is the default one; a load that cannot be dimmed has rate 0 alone.
-    fn rate(self, asked: u8) -> u8
-        ensures { λ r. ⌜ r ≡ rateOf self asked ⌝ }
-    {
-        if self.capable {
-            if 15 < asked {
-                return self.rate;
-            }
-            return asked;
-        }
-        0
-    }
 }
 
 impl Dimmer {
@@ -113,11 +65,7 @@ impl Dimmer {
         let last = self.last;
         let motion = self.motion;
         match motion {
-            Motion::Idle => Dimmer {
-                level,
-                last,
-                motion,
-            },
+            Motion::Idle => self,
             Motion::Fading { .. } => Dimmer {
                 level,
                 last: remembered(level, last),
@@ -169,48 +117,6 @@ impl Dimmer {
     }
 }
 
-// The ticks of one step at a rate; past 15 they are 0.
-pub fn ticks(rate: u8) -> u16
-    ensures { λ r. ⌜ r ≡ ticksPerStep rate ⌝ }
-{
-    if 15 < rate {
-        return 0;
-    }
-    TICKS[rate as usize]
-}
-
-fn wanted(level: u8, last: Step) -> Step
-    ensures { λ r. ⌜ r ≡ wanted level last ⌝ }
-{
-    if 100 < level {
-        return last;
-    }
-    Percent(level).step()
-}
-
-// A load that cannot be dimmed is off or full.
-fn allowed(capable: bool, target: Step) -> Step
-    ensures { λ r. ⌜ r ≡ allowed capable target ⌝ }
-{
-    if capable {
-        return target;
-    }
-    if target.0 == 0 {
-        return target;
-    }
-    Step::FULL
-}
-
-// A step other than 0 is remembered as the Last On Level.
-fn remembered(target: Step, last: Step) -> Step
-    ensures { λ r. ⌜ r ≡ remembered target last ⌝ }
-{
-    if target.0 == 0 {
-        return last;
-    }
-    target
-}
-
 // A fade begins where there is a way to go and time to take for it.
 fn moved(from: Step, last: Step, target: Step, ticks: u16) -> Dimmer
     ensures { λ r. ⌜ r ≡ headingTo from last target ticks ⌝ }
@@ -238,15 +144,6 @@ fn moved(from: Step, last: Step, target: Step, ticks: u16) -> Dimmer
             left: timers::run(ticks),
         },
     }
-}
-
-fn blink_ticks(value: u8) -> u16
-    ensures { λ r. ⌜ r ≡ flipTicks value ⌝ }
-{
-    if value == 0 {
-        return 120;
-    }
-    4 * (value as u16)
 }
 
 // One tick of a fade.

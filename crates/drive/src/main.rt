@@ -1,17 +1,16 @@
 // Plays a script on a switch: the file that the first argument names, or standard input, line by line to standard output.
-use desk::play;
-use desk::play::Desk;
-use desk::play::same;
+use desk::same;
 use libc::STDERR_FILENO;
 use libc::STDIN_FILENO;
 use libc::STDOUT_FILENO;
-use line::read::Line;
-use line::read::read;
-use line::write;
-use line::write::front;
+use line::Line;
+use line::read;
 use model::PADDLES;
 use model::PLACE;
-use state::BYTES;
+use page::front;
+use panel::BYTES;
+use stage::Desk;
+use stage::Turn;
 use state::COUNTERS;
 use state::NUMBERS;
 
@@ -209,7 +208,7 @@ fn perform(
     let lines = more(script.lines);
     let said = read(front(line, script.size), &mut bytes);
     let before = script.out;
-    let turn = play::play(
+    let turn = desk::play(
         said,
         lines,
         &bytes,
@@ -234,7 +233,7 @@ fn perform(
         size: 0,
     };
     let end = ticks(
-        play::ticks(said, desk),
+        desk::ticks(said, desk),
         start,
         counters,
         numbers,
@@ -304,7 +303,7 @@ fn ticks(
     }
 }
 
-// A tick joins the run where its row is the same. Else the run is written, and the tick begins another.
+// One tick, and the run that it belongs to.
 fn tick(
     ticking: Ticking,
     counters: &mut [u16; COUNTERS],
@@ -316,7 +315,18 @@ fn tick(
     row: &mut [u8; ROW],
     page: &mut [u8; BLOCK],
 ) -> Ticking {
-    let turn = play::tick(ticking.desk, counters, numbers, paddles, all, buffer, row);
+    let turn = stage::tick(ticking.desk, counters, numbers, paddles, all, buffer, row);
+    join(ticking, turn, last, row, page)
+}
+
+// The tick joins the run where its row is the same. Else the run is written, and the tick begins another.
+fn join(
+    ticking: Ticking,
+    turn: Turn,
+    last: &mut [u8; ROW],
+    row: &[u8; ROW],
+    page: &mut [u8; BLOCK],
+) -> Ticking {
     let desk = turn.desk;
     if same(front(row, turn.at), front(last, ticking.size)) {
         let out = ticking.out;
@@ -345,7 +355,7 @@ fn close(ticking: Ticking, last: &[u8; ROW], page: &mut [u8; BLOCK]) -> Out {
         return out;
     }
     Out {
-        at: write::run(page, out.at, ticking.run, front(last, ticking.size)),
+        at: page::run(page, out.at, ticking.run, front(last, ticking.size)),
         taken: out.taken,
     }
 }

@@ -7,14 +7,15 @@ use borrow.Author.Tests.{eq-eqb, ne-eqb}
 use Rattle.words.specs.Words.{if_then_else_}
 use Rattle.words.proofs.Laws.{one-outcome as only}
 use Rattle.vault.specs.Job.{Answered, Switch, switch}
-use Rattle.registers.specs.Places.{size}
+use Rattle.places.specs.Places.{size}
 use Rattle.state.specs.Keeping.{keptCounters, keptNumbers}
-use Rattle.state.specs.Paddles.{keptPaddles}
+use Rattle.panel.specs.Panel.{keptPaddles}
 use Rattle.state.specs.Code.{Sized}
-use Rattle.state.proofs.Laws.{colour-back, core-back, counters-same, mode-back, numbers-same, paddles-back, paddles-same, password-back}
+use Rattle.state.proofs.Laws.{colour-back, core-back, counters-same, mode-back, numbers-same, password-back}
+use Rattle.panel.proofs.Laws.{paddles-back, paddles-same}
 use Rattle.switch.specs.Switch.{Plain, Shown, plain}
 use Rattle.switch.specs.Respond.{Leaves, Starts, noAnswer, startAnswer, whole}
-use Rattle.switch.specs.declared.Answer.{Answer}
+use Rattle.answers.specs.declared.Answer.{Answer}
 use Rattle.switch.proofs.Laws.{one-leaving}
 use Rattle.host.specs.Host.{Begins, KeepsWhatItRead, MirrorsBack, RefusedStartLeavesAll, SpeaksOneWay, StartForgets, inFigures, switchAnswer}
 use Rattle.host.specs.declared.Figures.{Figures}

@@ -6,14 +6,14 @@ use lib.ListN.{length}
 use Rattle.units.specs.Units.{step}
 use Rattle.vault.specs.Job.{Switch}
 use Rattle.model.specs.Model.{paddleCount}
-use Rattle.registers.specs.Places.{size}
+use Rattle.places.specs.Places.{size}
 use Rattle.state.specs.Kinds.{colourFrom, colourNumber, modeNumber, modeOf}
 use Rattle.state.specs.State.{coreOf, counterCount, numberCount, passwordOf}
 use Rattle.state.specs.Keeping.{keptCounters, keptNumbers}
-use Rattle.state.specs.Paddles.{byteCount, keptPaddles, paddlesOf}
+use Rattle.panel.specs.Panel.{byteCount, keptPaddles, paddlesOf}
 use Rattle.switch.specs.Switch.{Deed, Plain, event, switchOf}
 use Rattle.switch.specs.Respond.{Leaves, Starts, respond}
-use Rattle.switch.specs.declared.Answer.{Answer}
+use Rattle.answers.specs.declared.Answer.{Answer}
 use Rattle.host.specs.declared.Figures.{Figures}
 
 -- An answer in figures.

@@ -7,17 +7,13 @@ ghost use Rattle.registers.specs.Registers.{imageOf};
 ghost use Rattle.state.specs.State.{passwordOf};
 ghost use Rattle.switch.specs.Switch.{press, release, tick, receive, restart};
 ghost use Rattle.host.specs.Host.{inFigures, Speaks, Begins};
+use answers::Answer;
 use model::PADDLES;
-use state::BYTES;
+use panel::BYTES;
 use state::COUNTERS;
 use state::NUMBERS;
 use state::kinds::colour_number;
 use state::kinds::mode_number;
-use switch::Answer;
-use switch::edges;
-use switch::receive;
-use switch::start;
-use switch::tick;
 
 // An answer in figures: `count` packets were sent, of so many bytes each.
 #[repr(C)]
@@ -43,7 +39,7 @@ pub extern "C" fn melszondru_parts_start(
 ) -> Figures
     ensures { λ r. ⌜ Begins (now (image .entry)) (now (counters .entry)) (now (numbers .entry)) (now (paddles .entry)) (now (all .entry)) r (now (counters .exit)) (now (numbers .exit)) (now (paddles .exit)) (now (all .exit)) ⌝ }
 {
-    figures_of(start::start(image, counters, numbers, paddles, all))
+    figures_of(wakes::start(image, counters, numbers, paddles, all))
 }
 
 #[no_mangle]
@@ -84,7 +80,7 @@ pub extern "C" fn melszondru_parts_tick(
 ) -> Figures
     ensures { λ r. ⌜ Speaks tick (now (counters .entry)) (now (numbers .entry)) (now (paddles .entry)) (now (all .entry)) (now (out .entry)) r (now (counters .exit)) (now (numbers .exit)) (now (paddles .exit)) (now (all .exit)) (now (out .exit)) ⌝ }
 {
-    figures_of(tick::tick(counters, numbers, paddles, all, out))
+    figures_of(ticks::tick(counters, numbers, paddles, all, out))
 }
 
 // A packet has no business with the paddles: whatever bytes they have, they stay.
@@ -98,7 +94,7 @@ pub extern "C" fn melszondru_parts_receive(
 ) -> Figures
     ensures { λ r. ⌜ ((paddles : List ℕ) → Speaks (receive (now (packet .entry))) (now (counters .entry)) (now (numbers .entry)) paddles (now (all .entry)) (now (out .entry)) r (now (counters .exit)) (now (numbers .exit)) paddles (now (all .exit)) (now (out .exit))) ⌝ }
 {
-    figures_of(receive::receive(counters, numbers, all, packet, out))
+    figures_of(hears::receive(counters, numbers, all, packet, out))
 }
 
 #[no_mangle]
@@ -111,7 +107,7 @@ pub extern "C" fn melszondru_parts_restart(
 ) -> Figures
     ensures { λ r. ⌜ Speaks restart (now (counters .entry)) (now (numbers .entry)) (now (paddles .entry)) (now (all .entry)) (now (out .entry)) r (now (counters .exit)) (now (numbers .exit)) (now (paddles .exit)) (now (all .exit)) (now (out .entry)) ⌝ }
 {
-    figures_of(start::restart(counters, numbers, paddles, all, out))
+    figures_of(wakes::restart(counters, numbers, paddles, all, out))
 }
 
 // The 256 bytes for the owner to save, with the password among them.
@@ -123,7 +119,7 @@ pub extern "C" fn melszondru_parts_image(
 )
     ensures { λ r. ⌜ now (out .exit) ≡ imageOf (now (all .entry)) (passwordOf (now (numbers .entry))) ⌝ }
 {
-    start::image(numbers, all, out)
+    wakes::image(numbers, all, out)
 }
 
 fn figures_of(answer: Answer) -> Figures

@@ -10,23 +10,28 @@ use lib.Dec.{eqb}
 use lib.ListN.{length, drop, getD}
 use Rattle.words.proofs.Laws.{cases}
 use Rattle.vault.specs.declared.Mode.{Mode}
-use Rattle.dimmer.specs.Dimmer.{optionsOf}
+use Rattle.levels.specs.Levels.{optionsOf}
 use Rattle.packet.specs.declared.Header.{Header}
-use Rattle.registers.specs.Places.{dimmingIn, components, linkPlace}
+use Rattle.places.specs.Places.{dimmingIn, components, linkPlace}
 use Rattle.registers.specs.Registers.{found, seek, valid}
 use Rattle.registers.specs.declared.Found.{Found}
 use Rattle.registers.specs.declared.Found.the-variants.{At}
-use Rattle.judge.specs.declared.Target.{Target}
-use Rattle.judge.specs.declared.Verb.{Verb}
-use Rattle.judge.specs.declared.Verb.the-variants.{Open, Close, Get, Set, Activate, Deactivate, Goto, FadeStart, FadeStop, Blink, Report, Store, Unlisted}
+use Rattle.verbs.specs.Verbs.{verbOf, listed, argument, optional, values, suits, arguments, registersInRange}
+use Rattle.verbs.specs.Promises.{Takes, Range, Suits}
+use Rattle.verbs.specs.declared.Verb.{Verb}
+use Rattle.verbs.specs.declared.Verb.the-variants.{Open, Close, Get, Set, Activate, Deactivate, Goto, FadeStart, FadeStop, Blink, Report, Store, Unlisted}
+use Rattle.verbs.proofs.Checks.{Number, numbered, listed-says, suits-says}
+use Rattle.reach.specs.Reach.{heard, targetOf, reached, permitted, componentOf}
+use Rattle.reach.specs.Promises.{Unheard, Permitted, ByLink}
+use Rattle.reach.specs.declared.Target.{Target}
+use Rattle.reach.proofs.Checks.{heard-says, Aimed, aimed, reached-says, permitted-says, component-says, component-is}
 use Rattle.judge.specs.declared.Order.{Order}
 use Rattle.judge.specs.declared.Order.the-variants as order
 use Rattle.judge.specs.declared.Work.{Work}
 use Rattle.judge.specs.declared.Work.the-variants as work
 use Rattle.judge.specs.declared.Drive.the-variants as drive
-use Rattle.judge.specs.Judge.{heard, targetOf, reached, verbOf, listed, argument, optional, values, suits, permitted, componentOf, driving, going, ordered, commanded, judged, arguments, registersInRange}
-use Rattle.judge.specs.Promises.{Unheard, Takes, Range, Suits, Permitted, Reached, Listed, Suited, ByLink, Refusal, wrong-network, not-ours, not-listed, wrong-arguments, not-permitted, Level, Terms, Asked}
-use Rattle.judge.proofs.Checks.{heard-says, Aimed, aimed, reached-says, Number, numbered, listed-says, suits-says, permitted-says, component-says, component-is}
+use Rattle.judge.specs.Judge.{driving, going, ordered, commanded, judged}
+use Rattle.judge.specs.Promises.{Reached, Listed, Suited, Refusal, wrong-network, not-ours, not-listed, wrong-arguments, not-permitted, Level, Terms, Asked}
 use Rattle.judge.specs.Code.{numberOfOrder, Judged, JudgedExactly, NumberExactly, OnlyNineTo13, ChecksInOrder}
 
 -- A test is true exactly where what it denies does not hold.

@@ -1,4 +1,2 @@
 pub mod Reading
 pub mod ReadingPromises
-pub mod Writing
-pub mod Written

@@ -11,9 +11,9 @@ use lib.Dec.{ltb, leb, eqb}
 use lib.ListN.{length, getD, take, drop, set, length-drop}
 use lib.Seq.{drop-cons, take-all, paste-suc}
 use Rattle.words.proofs.Laws.{both, cases}
-use Rattle.line.specs.declared.read.Line.{Line}
-use Rattle.line.specs.declared.read.Number.{Number}
-use Rattle.line.specs.declared.read.Number.the-variants.{Is, Not}
+use Rattle.line.specs.declared.Line.{Line}
+use Rattle.line.specs.declared.Number.{Number}
+use Rattle.line.specs.declared.Number.the-variants.{Is, Not}
 use Rattle.line.specs.Reading.{bare, gap, blank, digitOf, digits, value, within, numberOf, hex, hexOf, dash, limitOf, numbered, counted, alone, bytesOf, laid}
 
 -- No bytes have no CR behind them.

@@ -9,10 +9,10 @@ use lib.Dec.{ltb, leb, eqb}
 use lib.ListN.{length, getD, drop, length-append, length-drop, length-map}
 use lib.Seq.{take-at}
 use Rattle.words.proofs.Laws.{both, cases, one-outcome}
-use Rattle.line.specs.declared.read.Line.{Line}
-use Rattle.line.specs.declared.read.Line.the-variants.{Pass, Unread, Image, Room, Press, Release, Ticks, Packet, Restart, Dump}
-use Rattle.line.specs.declared.read.Number.{Number}
-use Rattle.line.specs.declared.read.Number.the-variants.{Is, Not}
+use Rattle.line.specs.declared.Line.{Line}
+use Rattle.line.specs.declared.Line.the-variants.{Pass, Unread, Image, Room, Press, Release, Ticks, Packet, Restart, Dump}
+use Rattle.line.specs.declared.Number.{Number}
+use Rattle.line.specs.declared.Number.the-variants.{Is, Not}
 use Rattle.line.specs.Reading.{bare, gap, blank, between, digitOf, digits, value, within, numberOf, hex, hexOf, dash, imageOf, packetOf, limitOf, numbered, counted, told, alone, said, lineOf, bytesOf, laid, Reads}
 use Rattle.line.specs.ReadingPromises.{Held, Sizes, OneOutcome, lowered, CaseAlike, LeadingZero, Lines}
 use Rattle.line.proofs.Reading.{hex-length, hex-reads, dash-none, number-within}

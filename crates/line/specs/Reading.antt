@@ -6,10 +6,10 @@ use mathlib.Core.Path.{_≡_}
 use lib.Dec.{ltb, leb, eqb}
 use lib.ListN.{length, getD, take, drop}
 use Rattle.words.specs.Words.{if_then_else_}
-use Rattle.line.specs.declared.read.Line.{Line}
-use Rattle.line.specs.declared.read.Line.the-variants.{Pass, Unread, Image, Room, Press, Release, Ticks, Packet, Restart, Dump}
-use Rattle.line.specs.declared.read.Number.{Number}
-use Rattle.line.specs.declared.read.Number.the-variants.{Is, Not}
+use Rattle.line.specs.declared.Line.{Line}
+use Rattle.line.specs.declared.Line.the-variants.{Pass, Unread, Image, Room, Press, Release, Ticks, Packet, Restart, Dump}
+use Rattle.line.specs.declared.Number.{Number}
+use Rattle.line.specs.declared.Number.the-variants.{Is, Not}
 
 -- A CR at a line's end is passed over, one only.
 unfoldable pub bare : List ℕ → List ℕ

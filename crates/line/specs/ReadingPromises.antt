@@ -5,8 +5,8 @@ use mathlib.Core.List.{List, [], _∷_, map}
 use mathlib.Core.Path.{_≡_}
 use lib.ListN.{length, take, drop}
 use Rattle.words.specs.Words.{if_then_else_}
-use Rattle.line.specs.declared.read.Line.{Line}
-use Rattle.line.specs.declared.read.Line.the-variants.{Pass, Unread, Image, Room, Press, Ticks, Packet, Restart, Dump}
+use Rattle.line.specs.declared.Line.{Line}
+use Rattle.line.specs.declared.Line.the-variants.{Pass, Unread, Image, Room, Press, Ticks, Packet, Restart, Dump}
 use Rattle.line.specs.Reading.{bare, between, numberOf, hex, hexOf, lineOf, Reads}
 
 -- The bytes of a line's hex are the first n of the lent ones.

@@ -19,19 +19,19 @@ use Rattle.lamp.specs.declared.Colour.the-variants.{Green, Red}
 use Rattle.lamp.specs.declared.Lamp.{Lamp}
 use Rattle.dimmer.specs.declared.Dimmer.{Dimmer}
 use Rattle.model.specs.Model.{place}
-use Rattle.registers.specs.Write.{applied, changeOf, changeAt}
+use Rattle.writes.specs.Writes.{applied, changeOf, changeAt}
 use Rattle.registers.specs.declared.Seen.{Seen}
 use Rattle.registers.specs.declared.Seen.the-variants as seen
-use Rattle.registers.specs.declared.places.Counter.the-variants.{Setups}
-use Rattle.registers.specs.declared.write.Write.{Write}
-use Rattle.registers.specs.declared.write.Write.the-variants as write
+use Rattle.places.specs.declared.Counter.the-variants.{Setups}
+use Rattle.writes.specs.declared.Write.{Write}
+use Rattle.writes.specs.declared.Write.the-variants as write
 use Rattle.judge.specs.declared.Drive.{Drive}
 use Rattle.judge.specs.declared.Order.{Order}
 use Rattle.judge.specs.declared.Order.the-variants as order
 use Rattle.judge.specs.declared.Work.{Work}
 use Rattle.judge.specs.declared.Work.the-variants as work
 use Rattle.acts.specs.Core.{withDimmer, unwritten, entering, opened}
-use Rattle.acts.specs.Orders.{driven, stored, performed}
+use Rattle.orders.specs.Orders.{driven, stored, performed}
 use Rattle.post.specs.Post.{enveloped, bytesOf, valuesFrom, replyMessage, replied}
 use Rattle.post.specs.Code.{front, Laid}
 use Rattle.post.specs.declared.Reply.{Reply}
@@ -43,7 +43,8 @@ use Rattle.state.specs.Code.{Sized, DimmerKept, LampKept}
 use Rattle.state.proofs.Laws.{hue-same, lamp-of-password, lamp-of-mode, lamp-of-levels, lamp-of-course}
 use Rattle.state.proofs.Laws.{only-lamp, dimmer-lamp, mode-lamp, password-lamp, timers-over, timers-back, sized-mode}
 use Rattle.obey.specs.Obey.{replyTo, hueOf}
-use Rattle.obey.specs.Code.{effectOf, replyOf, seenBy, seenOf, hueBy, Ready, Obeys, Sets}
+use Rattle.verdict.specs.Code.{seenBy, seenOf}
+use Rattle.obey.specs.Code.{effectOf, replyOf, hueBy, Ready, Obeys, Sets}
 
 -- Nothing is kept: ready as it was read.
 pub ready-same : (c n : List ℕ) → Ready (coreOf c n) (passwordOf n) c n c n

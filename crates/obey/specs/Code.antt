@@ -9,40 +9,23 @@ use Rattle.lamp.specs.declared.Colour.{Colour}
 use Rattle.lamp.specs.declared.Colour.the-variants.{Green, Red}
 use Rattle.lamp.specs.declared.Lamp.{Lamp}
 use Rattle.vault.specs.Job.{changed}
-use Rattle.vault.specs.Vault.{matches}
 use Rattle.vault.specs.declared.Password.{Password}
-use Rattle.vault.specs.declared.Mode.{Mode}
-use Rattle.vault.specs.declared.Mode.the-variants.{Normal, Setup, Factory}
 use Rattle.acts.specs.Core.{core, opened, unwritten}
-use Rattle.acts.specs.Orders.{performed}
+use Rattle.orders.specs.Orders.{performed}
 use Rattle.acts.specs.declared.Core.{Core}
 use Rattle.acts.specs.declared.Effect.{Effect}
 use Rattle.post.specs.Post.{replied}
 use Rattle.post.specs.Code.{Laid}
 use Rattle.post.specs.declared.Reply.{Reply}
 use Rattle.post.specs.declared.Reply.the-variants as reply
-use Rattle.registers.specs.Write.{applied, changeOf}
-use Rattle.registers.specs.declared.write.Write.the-variants.{Values}
+use Rattle.writes.specs.Writes.{applied, changeOf}
+use Rattle.writes.specs.declared.Write.the-variants.{Values}
 use Rattle.registers.specs.declared.Seen.{Seen}
-use Rattle.registers.specs.declared.Seen.the-variants as seen
 use Rattle.judge.specs.declared.Order.{Order}
 use Rattle.judge.specs.declared.Order.the-variants as order
 use Rattle.state.specs.State.{lampOf, passwordOf}
 use Rattle.state.specs.Keeping.{keptCounters, keptNumbers, keptTimers, keptHue, keptPassword}
 use Rattle.obey.specs.Obey.{replyTo}
-use Rattle.obey.specs.declared.Verdict.{Verdict}
-use Rattle.obey.specs.declared.Verdict.the-variants.{Stop, Go}
-
--- 01, Answer numbers, row 14: a wrong guess.
-unfoldable pub verdictOn : Password → Password → Verdict
-verdictOn w guess = if matches w guess then Go else Stop 14
-
--- Whether an order is refused: by its own number, or by 14.
-unfoldable pub verdictOf : Order → Password → Verdict
-verdictOf (order.Refused n) w = Stop n
-verdictOf (order.Guess guess) w = verdictOn w guess
-verdictOf (order.Read first count) w = Go
-verdictOf (order.Work o) w = Go
 
 -- What a granted order does.
 unfoldable pub effectOf : List ℕ → Order → Core → Effect
@@ -57,19 +40,6 @@ replyOf (order.Refused n) = reply.Silence
 replyOf (order.Guess guess) = reply.Silence
 replyOf (order.Read first count) = reply.Registers first count
 replyOf (order.Work o) = replyTo o
-
--- 01, Commands, 9: the password is seen in Setup alone.
-unfoldable pub seenBy : Mode → Password → Seen
-seenBy Normal w = seen.Hidden
-seenBy Setup w = seen.Shown w
-seenBy Factory w = seen.Hidden
-
--- Only a reading sees it.
-unfoldable pub seenOf : Order → Mode → Password → Seen
-seenOf (order.Refused n) mode w = seen.Hidden
-seenOf (order.Guess guess) mode w = seen.Hidden
-seenOf (order.Read first count) mode w = seenBy mode w
-seenOf (order.Work o) mode w = seen.Hidden
 
 -- The signal of a packet that is answered 0, by the length of the reply.
 unfoldable pub hueBy : ℕ → Colour

@@ -1,25 +1,23 @@
-// What a packet's order does: granted or refused, and if granted done in the lent state, each kind of order in its own parts. The
-// lamp's signal comes after it.
+// What a granted order does in the lent state, each kind of order in its own parts. The lamp's signal comes after it.
 ghost use mathlib.Core.Path.{_≡_};
 ghost use Rattle.lamp.specs.Lamp.{signalSet};
 ghost use Rattle.registers.specs.declared.Seen.the-variants.{Hidden};
 ghost use Rattle.acts.specs.Core.{entering};
-ghost use Rattle.acts.specs.Orders.{driven, performed};
+ghost use Rattle.orders.specs.Orders.{driven, performed};
 ghost use Rattle.state.specs.State.{coreOf, dimmerOf, lampOf, modeIn, passwordOf};
 ghost use Rattle.state.specs.Code.{DimmerKept, LampKept};
 ghost use Rattle.obey.specs.Obey.{replyTo};
-ghost use Rattle.obey.specs.Code.{verdictOn, verdictOf, effectOf, replyOf, seenBy, seenOf, hueBy, Ready, Obeys, Sets};
-use acts::orders::drive;
-use acts::orders::stored;
+ghost use Rattle.verdict.specs.Code.{seenOf};
+ghost use Rattle.obey.specs.Code.{effectOf, replyOf, hueBy, Ready, Obeys, Sets};
 use judge::Drive;
 use judge::Order;
 use judge::Work;
 use lamp::Colour;
+use orders::drive;
+use orders::stored;
+use places::Counter;
 use post::Reply;
 use registers::Seen;
-use registers::places::Counter;
-use registers::write::Write;
-use registers::write::apply;
 use state::COUNTERS;
 use state::NUMBERS;
 use state::core::dimmer_of;
@@ -33,34 +31,9 @@ use state::core::mode_in;
 use state::core::password_of;
 use state::sized;
 use vault::Mode;
-use vault::Password;
-
-// Whether an order is refused, its guess compared with the password, or granted.
-pub enum Verdict {
-    Stop(u8),
-    Go,
-}
-
-// A wrong password is refused by 14.
-pub fn verdict_of(order: Order, password: Password) -> Verdict
-    ensures { λ r. ⌜ r ≡ verdictOf order password ⌝ }
-{
-    match order {
-        Order::Refused(number) => Verdict::Stop(number),
-        Order::Guess(guess) => opening(password, guess),
-        Order::Read { .. } => Verdict::Go,
-        Order::Work(_) => Verdict::Go,
-    }
-}
-
-fn opening(password: Password, guess: Password) -> Verdict
-    ensures { λ r. ⌜ r ≡ verdictOn password guess ⌝ }
-{
-    if password.matches(guess) {
-        return Verdict::Go;
-    }
-    Verdict::Stop(14)
-}
+use verdict::seen_by;
+use writes::Write;
+use writes::apply;
 
 // What a granted order does, and the length of the reply. `values`: what a Set Registers brings.
 pub fn obey(
@@ -88,16 +61,6 @@ pub fn obey(
             post::send(all, seen, source, reply, percent, out)
         }
         Order::Work(work) => perform(work, source, values, counters, numbers, all, out),
-    }
-}
-
-fn seen_by(mode: Mode, password: Password) -> Seen
-    ensures { λ r. ⌜ r ≡ seenBy mode password ⌝ }
-{
-    match mode {
-        Mode::Normal => Seen::Hidden,
-        Mode::Setup => Seen::Shown(password),
-        Mode::Factory => Seen::Hidden,
     }
 }
 
@@ -151,7 +114,7 @@ fn set(first: u8, values: &[u8], numbers: &mut [u8; NUMBERS], all: &mut [u8; 256
     ensures { λ r. ⌜ Sets first (now (values .entry)) (now (numbers .entry)) (now (all .entry)) (now (numbers .exit)) (now (all .exit)) ⌝ }
 {
     let write = Write::Values { first };
-    let password = registers::write::password(write, values, password_of(numbers));
+    let password = writes::password(write, values, password_of(numbers));
     apply(write, values, all);
     keep_password(password, numbers);
 }

@@ -1,7 +1,7 @@
-// One paddle: edges and ticks in, gestures out. Nothing here knows which paddle of the switch it is.
+// One paddle: edges in, gestures out; its ticks are run where the paddles' bytes are (panel). Nothing here knows which paddle of the
+// switch it is.
 ghost use mathlib.Core.Path.{_≡_};
-ghost use Rattle.paddle.specs.Paddle.{freshPaddle, down, pressed, released, gestureUp, nextPaddle, gesture};
-ghost use Rattle.paddle.specs.Paddle.{withContact, holdFrom, ended, ending, tapped, oneTapMore, ends, completed, closing, left, tapsKept};
+ghost use Rattle.paddle.specs.Paddle.{freshPaddle, down, pressed, released, gestureUp, withContact, holdFrom, ended, ending, tapped, oneTapMore};
 ghost use Rattle.paddle.specs.Code.{turn, completesNothing};
 
 // Ticks from the press to Hold.
@@ -99,15 +99,6 @@ impl Paddle {
         }
     }
 
-    pub fn tick(self) -> Turn
-        ensures { λ r. ⌜ r ≡ turn (nextPaddle self) (gesture self) ⌝ }
-    {
-        Turn {
-            paddle: self.next(),
-            gesture: self.gesture(),
-        }
-    }
-
     fn moved(mut self, contact: Contact, down: bool) -> Paddle
         ensures { λ r. ⌜ r ≡ withContact contact down self ⌝ }
     {
@@ -164,67 +155,6 @@ impl Paddle {
         self.taps = counted(self.taps);
         self
     }
-
-    // Whether the next tick ends the run: by Hold, or with the paddle up by the gap.
-    fn ends(self) -> bool
-        ensures { λ r. ⌜ r ≡ ends self ⌝ }
-    {
-        if self.down() {
-            return self.hold == 1;
-        }
-        self.gap <= 1
-    }
-
-    fn gesture(self) -> Gesture
-        ensures { λ r. ⌜ r ≡ gesture self ⌝ }
-    {
-        if self.ends() {
-            return self.completed();
-        }
-        Gesture::Nothing
-    }
-
-    // The gesture of the tick that ends the run.
-    fn completed(self) -> Gesture
-        ensures { λ r. ⌜ r ≡ completed self ⌝ }
-    {
-        if self.down() {
-            return Gesture::Hold;
-        }
-        closing(self.taps)
-    }
-
-    fn next(self) -> Paddle
-        ensures { λ r. ⌜ r ≡ nextPaddle self ⌝ }
-    {
-        Paddle {
-            local: self.local,
-            slave: self.slave,
-            hold: self.left(),
-            gap: timers::run_byte(self.gap),
-            taps: self.kept(),
-        }
-    }
-
-    // Hold comes nearer only while the paddle is down.
-    fn left(self) -> u8
-        ensures { λ r. ⌜ r ≡ left self ⌝ }
-    {
-        if self.down() {
-            return timers::run_byte(self.hold);
-        }
-        self.hold
-    }
-
-    // Hold drops the taps, and a run that closes gives them away.
-    fn kept(self) -> u8
-        ensures { λ r. ⌜ r ≡ tapsKept self ⌝ }
-    {
-        if self.ends() {
-            return 0;
-        }
-        self.taps
-    }
 }
 
 fn counted(taps: u8) -> u8
@@ -234,14 +164,4 @@ fn counted(taps: u8) -> u8
         return taps + 1;
     }
     taps
-}
-
-// The gesture of a run that closes.
-fn closing(taps: u8) -> Gesture
-    ensures { λ r. ⌜ r ≡ closing taps ⌝ }
-{
-    if taps == 0 {
-        return Gesture::Nothing;
-    }
-    Gesture::Taps(taps)
 }

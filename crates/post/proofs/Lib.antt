@@ -1,4 +1,3 @@
 pub mod Laws
-pub mod Laying
 pub mod Steps
 pub mod Sending

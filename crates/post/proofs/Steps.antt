@@ -9,12 +9,13 @@ use lib.Seq.{take-at, length-take-le}
 use types.Run.{OneOf, miss}
 use denote.Enum.Declared.{tagOf}
 use Rattle.packet.specs.Layout.{header, packed}
-use Rattle.packet.specs.Writing.{Wrote, laid}
+use Rattle.writer.specs.Writing.{Wrote, laid}
 use Rattle.packet.specs.declared.Header.{Header}
-use Rattle.packet.specs.declared.Written.{Written}
-use Rattle.packet.specs.declared.Written.the-variants.{Packet, Field, Short}
-use Rattle.packet.proofs.Laws.{packed-length, written-length, exactly-written}
-use Rattle.packet.proofs.Written.{the-type}
+use Rattle.writer.specs.declared.Written.{Written}
+use Rattle.writer.specs.declared.Written.the-variants.{Packet, Field, Short}
+use Rattle.writer.proofs.Laws.{written-length, exactly-written}
+use Rattle.packet.proofs.Laws.{packed-length}
+use Rattle.writer.proofs.Written.{the-type}
 use Rattle.registers.specs.Registers.{rangeOf}
 use Rattle.registers.specs.declared.Seen.{Seen}
 use Rattle.post.specs.Post.{enveloped, valuesFrom}

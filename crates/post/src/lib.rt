@@ -1,40 +1,20 @@
-// What a switch sends: a paddle's link packet, noted while its event goes on and laid at its end, and a reply to a packet.
+// What a switch sends: a link packet, noted while its event goes on and laid at its end, and a reply to a packet.
 ghost use mathlib.Core.Path.{_≡_};
 ghost use Prim.Native.Nat.{_≤_, min};
 ghost use mathlib.Core.Bool.{false};
 ghost use lib.ListN.{length};
 ghost use Rattle.packet.specs.Layout.{header};
-ghost use Rattle.post.specs.Post.{commandNumber, gestureNumber, chosen, trimmed, takesLevel};
 ghost use Rattle.post.specs.Post.{replied, valuesFrom, headed, enveloped};
-ghost use Rattle.post.specs.Code.{noNote, noteOf, noteHeader, sentOf, Laid};
+ghost use Rattle.post.specs.Code.{noNote, noteHeader, sentOf, Laid};
 use packet::Header;
-use packet::Written;
-use paddle::Gesture;
 use registers::Seen;
-use registers::places;
-use registers::places::Entry;
-use registers::places::Transmit;
 use units::Percent;
-use vault::Mode;
+use writer::Written;
 
-pub mod outbox;
-
-// Command numbers above those of the command table.
-const REPORT: u8 = 14;
-
-const NONE: u8 = 15;
-
-// First bytes of messages: what takes a level, and the two replies.
-const GOTO: u8 = 0x22;
-
-const FADE: u8 = 0x23;
-
-const STATUS: u8 = 0x86;
+// First bytes of the two replies; the first one's may be a gesture's message too.
+pub const STATUS: u8 = 0x86;
 
 const VALUES: u8 = 0x90;
-
-// An argument that is left off.
-const ABSENT: u8 = 255;
 
 // The most values that a reply holds.
 const MOST: u8 = 16;
@@ -74,97 +54,6 @@ impl Note {
             message: Message::Empty,
         }
     }
-}
-
-// What a paddle's gesture sends, in the mode that it finds; the percent is the one after the act.
-pub fn announce(all: &[u8; 256], mode: Mode, paddle: u8, gesture: Gesture, percent: Percent) -> Note
-    ensures { λ r. ⌜ r ≡ noteOf (now (all .entry)) mode paddle gesture percent ⌝ }
-{
-    let transmit = places::transmit_of(all, paddle);
-    let link = transmit.link;
-    if registers::valid(link) {
-        let number = number(mode, transmit, gesture);
-        return Note {
-            network: places::network(all),
-            source: places::unit(all),
-            destination: link,
-            message: chosen(all, number, percent),
-        };
-    }
-    Note::none()
-}
-
-// The command number of a gesture in a mode: none in Setup, and none for a double in Factory Default.
-fn number(mode: Mode, transmit: Transmit, gesture: Gesture) -> u8
-    ensures { λ r. ⌜ r ≡ commandNumber mode transmit gesture ⌝ }
-{
-    match mode {
-        Mode::Normal => gesture_number(transmit, transmit.double, gesture),
-        Mode::Setup => NONE,
-        Mode::Factory => gesture_number(transmit, NONE, gesture),
-    }
-}
-
-// The transmit component's number for the gesture; `double` is the one for two taps.
-fn gesture_number(transmit: Transmit, double: u8, gesture: Gesture) -> u8
-    ensures { λ r. ⌜ r ≡ gestureNumber transmit double gesture ⌝ }
-{
-    match gesture {
-        Gesture::Nothing => NONE,
-        Gesture::Taps(taps) => {
-            if taps == 1 {
-                return transmit.single;
-            }
-            if taps == 2 {
-                return double;
-            }
-            NONE
-        }
-        Gesture::Hold => transmit.hold,
-        Gesture::Release => transmit.release,
-    }
-}
-
-// By the low four bits of the command number.
-fn chosen(all: &[u8; 256], number: u8, percent: Percent) -> Message
-    ensures { λ r. ⌜ r ≡ chosen (now (all .entry)) number percent ⌝ }
-{
-    let low = number % 16;
-    if low == NONE {
-        return Message::Empty;
-    }
-    if low == REPORT {
-        return Message::Two(STATUS, percent.0);
-    }
-    trimmed(places::entry_at(all, low))
-}
-
-// An entry of the command table without its absent arguments.
-fn trimmed(entry: Entry) -> Message
-    ensures { λ r. ⌜ r ≡ trimmed entry ⌝ }
-{
-    let command = entry.command;
-    let first = entry.first;
-    let second = entry.second;
-    if command == ABSENT {
-        return Message::Empty;
-    }
-    if second != ABSENT {
-        return Message::Three(command, first, second);
-    }
-    if first != ABSENT {
-        return Message::Two(command, first);
-    }
-    if takes_level(command) {
-        return Message::Two(command, first);
-    }
-    Message::One(command)
-}
-
-fn takes_level(command: u8) -> bool
-    ensures { λ r. ⌜ r ≡ takesLevel command ⌝ }
-{
-    command == GOTO || command == FADE
 }
 
 // Lays a note's packet at the front of a place and answers its whole length: 0 where there is none, or no room for it.
@@ -269,7 +158,7 @@ fn put(link: bool, network: u8, destination: u8, source: u8, message: &[u8], out
         destination,
         source,
     };
-    let written = packet::write(header, message, out);
+    let written = writer::write(header, message, out);
     let Written::Packet(whole) = written else {
         return 0;
     };

@@ -30,15 +30,15 @@ use Rattle.paddle.specs.declared.Gesture.{Gesture}
 use Rattle.paddle.specs.declared.Gesture.the-variants as gestures
 use Rattle.paddle.specs.declared.Paddle.{Paddle}
 use Rattle.model.specs.Model.{kindOf, paddleOf, room, contactCount}
-use Rattle.registers.specs.Places.{counterPlace, levelPlace, savedPlace, secret, size}
+use Rattle.places.specs.Places.{counterPlace, levelPlace, savedPlace, secret, size}
 use Rattle.registers.specs.Registers.{imageOf}
-use Rattle.registers.specs.Write.{applied, byteAfter, byteSet, changeAt, changeOf, factoryAt, sets}
-use Rattle.registers.specs.declared.places.Counter.{Counter}
-use Rattle.registers.specs.declared.places.Counter.the-variants.{Restarts, Setups}
-use Rattle.registers.specs.declared.write.Write.{Write}
-use Rattle.registers.specs.declared.write.Write.the-variants as write
-use Rattle.registers.proofs.Laws.{by-secret}
-use Rattle.registers.proofs.Writing.{image-after, write-length}
+use Rattle.writes.specs.Writes.{applied, byteAfter, byteSet, changeAt, changeOf, factoryAt, sets}
+use Rattle.places.specs.declared.Counter.{Counter}
+use Rattle.places.specs.declared.Counter.the-variants.{Restarts, Setups}
+use Rattle.writes.specs.declared.Write.{Write}
+use Rattle.writes.specs.declared.Write.the-variants as write
+use Rattle.places.proofs.Laws.{by-secret}
+use Rattle.writes.proofs.Writing.{image-after, write-length}
 use Rattle.registers.specs.declared.Seen.the-variants as seen
 use Rattle.judge.specs.Judge.{judged}
 use Rattle.judge.specs.Promises.{Accepted}
@@ -48,14 +48,15 @@ use Rattle.judge.specs.declared.Work.{Work}
 use Rattle.judge.specs.declared.Work.the-variants as work
 use Rattle.judge.proofs.Laws.{asks}
 use Rattle.acts.specs.Core.{aged, opened, saved, toSave, unwritten, signalled}
-use Rattle.acts.specs.Gestures.{acted, leads, writes}
+use Rattle.gestures.specs.Gestures.{acted, leads, writes}
 use Rattle.acts.specs.declared.Core.{Core}
 use Rattle.acts.specs.declared.Effect.{Effect}
-use Rattle.acts.specs.Orders.{stored}
-use Rattle.acts.proofs.Laws.{gesture-save, gesture-writes, work-writes, writes-by}
-use Rattle.acts.specs.Code.{workWrites}
+use Rattle.orders.specs.Orders.{stored}
+use Rattle.gestures.proofs.Laws.{gesture-save, gesture-writes, writes-by}
+use Rattle.orders.proofs.Laws.{work-writes}
+use Rattle.orders.specs.Code.{workWrites}
 use Rattle.post.specs.declared.Reply.the-variants as reply
-use Rattle.state.specs.Paddles.{gestureAt, paddleAt}
+use Rattle.panel.specs.Panel.{gestureAt, paddleAt}
 use Rattle.turns.specs.Turns.{Moment, after, turned, turns}
 use Rattle.switch.specs.Switch.{Deed, Event, Plain, Shown, event, press, receive, release, restart, tick}
 use Rattle.switch.specs.Events.{SwitchJob, outcomeOf, begun, jobOfDeed, finished, garbled, jobOfRead, job, known, plainAfter, jobOfWork, jobOfGuess, jobOfOrder, jobOfPress, jobOfFrame, jobOfBytes, refused, jobOfRelease, jobOfRestart, signalledBy, jobOfTick, woken}

@@ -24,29 +24,34 @@ use Rattle.paddle.specs.declared.Gesture.{Gesture}
 use Rattle.paddle.specs.declared.Paddle.{Paddle}
 use Rattle.lamp.proofs.Laws.{output-within}
 use Rattle.model.specs.Model.{paddleOf, room, paddleCount, contactCount}
-use Rattle.registers.specs.Places.{size}
+use Rattle.places.specs.Places.{size}
 use Rattle.registers.specs.Registers.{Dead, apart}
 use Rattle.registers.specs.declared.Seen.{Seen}
 use Rattle.registers.specs.declared.Seen.the-variants as seen
 use Rattle.registers.proofs.Laws.{apart-dead, apart-length}
-use Rattle.registers.proofs.Writing.{write-dead, write-length}
+use Rattle.writes.proofs.Writing.{write-dead, write-length}
 use Rattle.judge.specs.Judge.{judged}
 use Rattle.judge.specs.declared.Order.{Order}
 use Rattle.judge.specs.declared.Order.the-variants as order
 use Rattle.judge.specs.declared.Work.{Work}
 use Rattle.acts.specs.Core.{aged, entering, opened, saved, signalled, unwritten}
-use Rattle.acts.specs.Gestures.{acted}
-use Rattle.acts.specs.Orders.{performed}
+use Rattle.gestures.specs.Gestures.{acted}
+use Rattle.orders.specs.Orders.{performed}
 use Rattle.acts.specs.declared.Core.{Core}
 use Rattle.acts.specs.declared.Effect.{Effect}
-use Rattle.acts.proofs.Laws.{Ranged, age-ranged, gesture-ranged, work-ranged, start-ranged}
-use Rattle.post.specs.Post.{announced, headed, replied, replyMessage, tally}
+use Rattle.acts.proofs.Laws.{Ranged, age-ranged, start-ranged}
+use Rattle.gestures.proofs.Laws.{gesture-ranged}
+use Rattle.orders.proofs.Laws.{work-ranged}
+use Rattle.herald.specs.Herald.{announced}
+use Rattle.post.specs.Post.{headed, replied, replyMessage}
+use Rattle.outbox.specs.Outbox.{tally}
 use Rattle.post.specs.Promises.{Each}
 use Rattle.post.specs.declared.Reply.{Reply}
 use Rattle.post.specs.declared.Reply.the-variants as reply
-use Rattle.post.proofs.Sending.{announced-one, announced-reads, each-so, enveloped-one, replied-reads}
-use Rattle.state.specs.Paddles.{gestureAt, pressedAt, releasedAt}
-use Rattle.state.proofs.Laws.{fresh-count}
+use Rattle.herald.proofs.Announcing.{announced-one, announced-reads}
+use Rattle.post.proofs.Sending.{each-so, enveloped-one, replied-reads}
+use Rattle.panel.specs.Panel.{gestureAt, pressedAt, releasedAt}
+use Rattle.panel.proofs.Laws.{fresh-count}
 use Rattle.turns.specs.Turns.{Moment, after, turned, turns}
 use Rattle.obey.specs.Obey.{hueOf, replyTo}
 use Rattle.switch.specs.Switch.{Deed, Event, Plain, Shown, answerOf, answerWith, press, receive, release, restart, shown, tick}

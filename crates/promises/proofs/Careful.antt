@@ -20,10 +20,10 @@ use Rattle.paddle.specs.Paddle.{gesture, nextPaddle}
 use Rattle.paddle.specs.declared.Gesture.{Gesture}
 use Rattle.paddle.specs.declared.Paddle.{Paddle}
 use Rattle.model.specs.Model.{room, contactCount}
-use Rattle.registers.specs.Write.{changeOf}
-use Rattle.registers.specs.declared.write.Write.{Write}
-use Rattle.registers.specs.declared.write.Write.the-variants as write
-use Rattle.registers.proofs.Writing.{password-whole}
+use Rattle.writes.specs.Writes.{changeOf}
+use Rattle.writes.specs.declared.Write.{Write}
+use Rattle.writes.specs.declared.Write.the-variants as write
+use Rattle.writes.proofs.Writing.{password-whole}
 use Rattle.judge.specs.Judge.{judged}
 use Rattle.judge.specs.declared.Order.{Order}
 use Rattle.judge.specs.declared.Order.the-variants as order
@@ -31,12 +31,13 @@ use Rattle.judge.specs.declared.Work.{Work}
 use Rattle.judge.specs.declared.Work.the-variants as work
 use Rattle.judge.proofs.Laws.{asks}
 use Rattle.acts.specs.Core.{aged, entering, opened, saved, toSave, signalled}
-use Rattle.acts.specs.Gestures.{acted, writes}
-use Rattle.acts.specs.Orders.{stored}
+use Rattle.gestures.specs.Gestures.{acted, writes}
+use Rattle.orders.specs.Orders.{stored}
 use Rattle.acts.specs.declared.Core.{Core}
 use Rattle.acts.specs.declared.Effect.{Effect}
-use Rattle.acts.proofs.Laws.{gesture-writes, work-writes, writes-by}
-use Rattle.acts.specs.Code.{workWrites}
+use Rattle.gestures.proofs.Laws.{gesture-writes, writes-by}
+use Rattle.orders.proofs.Laws.{work-writes}
+use Rattle.orders.specs.Code.{workWrites}
 use Rattle.turns.specs.Turns.{Moment, after, turned, turns}
 use Rattle.switch.specs.Switch.{Plain, Deed, press, release, tick, receive, restart}
 use Rattle.switch.specs.Events.{SwitchJob, outcomeOf, begun, jobOfDeed, finished, jobOfRead, job, known, plainAfter, jobOfWork, jobOfGuess, jobOfOrder, jobOfPress, jobOfBytes, jobOfFrame, jobOfRelease, jobOfRestart, jobOfTick}

@@ -20,7 +20,8 @@ use Rattle.vault.specs.Product
 use Rattle.vault.specs.Vault.{password}
 use Rattle.vault.specs.declared.Mode.the-variants.{Setup}
 use Rattle.vault.proofs.Laws.{equal-matches, respond-right}
-use Rattle.dimmer.specs.Dimmer.{allowed, distance, freshDimmer, headingTo, optionsOf, rateOf, remembered, setTo, tickedBy, ticksPerStep, walked, wanted}
+use Rattle.levels.specs.Levels.{allowed, optionsOf, rateOf, remembered, ticksPerStep, wanted}
+use Rattle.dimmer.specs.Dimmer.{distance, freshDimmer, headingTo, setTo, tickedBy, walked}
 use Rattle.dimmer.specs.declared.Dimmer.{Dimmer}
 use Rattle.dimmer.specs.declared.Motion.the-variants.{Idle}
 use Rattle.dimmer.proofs.Laws.{fade-ends, fade-runs}
@@ -32,9 +33,9 @@ use Rattle.lamp.specs.declared.Lamp.{Lamp}
 use Rattle.lamp.proofs.Laws.{output-plain, skip-none, version-shows}
 use Rattle.lamp.specs.Code.{blinkAfter, versionAfter}
 use Rattle.model.specs.Model.{drives, kindOf, paddleOf, room, paddleCount, contactCount}
-use Rattle.registers.specs.Places.{counterPlace, digitIn, dimmingIn, lightIn, networkIn, singleIn, size}
+use Rattle.places.specs.Places.{counterPlace, digitIn, dimmingIn, lightIn, networkIn, singleIn, size}
 use Rattle.registers.specs.Registers.{apart, found, seek, valid}
-use Rattle.registers.specs.Write.{applied, oneMore, stored}
+use Rattle.writes.specs.Writes.{applied, oneMore, stored}
 use Rattle.registers.specs.declared.Found.the-variants.{At}
 use Rattle.registers.specs.declared.Seen.the-variants as seen
 use Rattle.judge.specs.Judge.{driving, judged}
@@ -43,13 +44,14 @@ use Rattle.judge.specs.declared.Work.the-variants as work
 use Rattle.judge.specs.declared.Drive.the-variants as drive
 use Rattle.judge.proofs.Laws as judge
 use Rattle.acts.specs.Core.{entering, loaded, opened, setBy, setting, startLevel, started, unwritten, signalled}
-use Rattle.acts.specs.Gestures.{acted, actedIn, byAction, actedInNormal, tapsInNormal}
-use Rattle.acts.specs.Orders.{driven, performed}
+use Rattle.gestures.specs.Gestures.{acted, actedIn, byAction, actedInNormal, tapsInNormal}
+use Rattle.orders.specs.Orders.{driven, performed}
 use Rattle.post.specs.Post.{enveloped, replied, replyMessage}
 use Rattle.post.specs.declared.Reply.the-variants as reply
-use Rattle.post.proofs.Sending.{case-a, case-j}
-use Rattle.state.specs.Paddles.{paddleAt, pressedAt, freshFrom}
-use Rattle.state.proofs.Laws.{fresh-count, paddle-low}
+use Rattle.post.proofs.Sending.{case-a}
+use Rattle.herald.proofs.Announcing.{case-j}
+use Rattle.panel.specs.Panel.{paddleAt, pressedAt, freshFrom}
+use Rattle.panel.proofs.Laws.{fresh-count, paddle-low}
 use Rattle.obey.specs.Obey.{replyTo}
 use Rattle.switch.specs.Switch.{Event, Plain, Shown, answerOf, answerWith, event, press, receive}
 use Rattle.switch.specs.Events.{SwitchJob, outcomeOf, finished, job, plainAfter, jobOfWork, jobOfGuess, jobOfOrder, jobOfPress, refused, woken}

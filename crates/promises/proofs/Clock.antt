@@ -15,13 +15,13 @@ use Rattle.paddle.specs.declared.Paddle.{Paddle}
 use Rattle.paddle.proofs.Alike.{alike-same, rested}
 use Rattle.model.specs.Model.{paddleOf, room}
 use Rattle.registers.proofs.Laws.{password-back, registers-back}
-use Rattle.state.proofs.Laws.{paddle-low}
+use Rattle.panel.proofs.Laws.{paddle-low}
 use Rattle.switch.specs.Switch.{Plain, event, restart, tick}
 use Rattle.switch.specs.Events.{jobOfDeed, finished, job, jobOfRestart, jobOfTick, woken}
 use Rattle.switch.specs.Respond.{respond, startedFrom}
 use Rattle.promises.specs.Ticking.{runOf, ticksOf, withRoom}
 use Rattle.promises.specs.Clock.{Clock, RestartForgets, RestartForgetsForGood, RestartIsStart, TicksBeforeAPress}
-use Rattle.promises.proofs.Cases.{next-at, ticks-shift}
+use Rattle.promises.proofs.Ticks.{next-at, ticks-shift}
 
 restarted : (s : Switch Plain) (lent : ℕ) → room ≤ lent → respond s (event lent restart) .next ≡ switch (woken (s .plain .registers)) (s .password)
 unfolding Product.responseOf job jobOfDeed jobOfRestart settled changed became

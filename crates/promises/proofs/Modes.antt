@@ -19,9 +19,9 @@ use Rattle.paddle.specs.declared.Gesture.{Gesture}
 use Rattle.paddle.specs.declared.Gesture.the-variants.{Nothing, Taps, Hold, Release}
 use Rattle.paddle.specs.declared.Paddle.{Paddle}
 use Rattle.acts.specs.Core.{aged, saved, signalled}
-use Rattle.acts.specs.Gestures.{leads}
+use Rattle.gestures.specs.Gestures.{leads}
 use Rattle.acts.specs.declared.Core.{Core}
-use Rattle.acts.proofs.Laws.{gesture-leads}
+use Rattle.gestures.proofs.Laws.{gesture-leads}
 use Rattle.turns.specs.Turns.{Moment, after, turned, turns}
 use Rattle.switch.specs.Switch.{Plain}
 use Rattle.switch.specs.Events.{begun, finished, signalledBy, jobOfTick}

@@ -27,21 +27,21 @@ use Rattle.vault.proofs.Laws.{equal-matches, matches-equal, respond-done}
 use Rattle.paddle.specs.Paddle.{freshPaddle}
 use Rattle.paddle.proofs.Laws.{pressed-again, released-again}
 use Rattle.model.specs.Model.{kindOf, paddleOf, room, contactCount}
-use Rattle.registers.specs.Places.{size}
+use Rattle.places.specs.Places.{size}
 use Rattle.registers.specs.Registers.{numberTaken}
 use Rattle.registers.specs.declared.Taken.the-variants.{Refused}
-use Rattle.registers.specs.Write.{applied, changeAt, changeOf}
+use Rattle.writes.specs.Writes.{applied, changeAt, changeOf}
 use Rattle.registers.specs.declared.Seen.the-variants as seen
 use Rattle.judge.specs.Judge.{judged}
 use Rattle.judge.specs.declared.Order.{Order}
 use Rattle.judge.specs.declared.Order.the-variants as order
 use Rattle.judge.proofs.Laws as judge
 use Rattle.acts.specs.Core.{opened, unwritten}
-use Rattle.acts.proofs.Laws.{nothing-acts}
-use Rattle.post.specs.Post.{placed}
+use Rattle.gestures.proofs.Laws.{nothing-acts}
+use Rattle.outbox.specs.Outbox.{placed}
 use Rattle.post.specs.declared.Reply.the-variants as reply
-use Rattle.post.proofs.Sending.{announces}
-use Rattle.state.specs.Paddles.{gestureAt, paddleAt, pressedAt, releasedAt}
+use Rattle.herald.proofs.Announcing.{announces}
+use Rattle.panel.specs.Panel.{gestureAt, paddleAt, pressedAt, releasedAt}
 use Rattle.turns.specs.Turns.{after, turned}
 use Rattle.switch.specs.Switch.{Deed, Event, Plain, Shown, answerOf, answerWith, event, plain, press, receive, release, restart, shown, tick}
 use Rattle.switch.specs.Events.{SwitchJob, outcomeOf, jobOfDeed, finished, garbled, jobOfRead, job, known, jobOfWork, jobOfGuess, jobOfOrder, jobOfPress, jobOfFrame, jobOfBytes, refused, jobOfRelease, jobOfRestart, signalledBy, jobOfTick}

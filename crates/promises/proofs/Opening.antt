@@ -9,13 +9,14 @@ use lib.Dec.{ltb, leb}
 use lib.ListN.{drop, length}
 use Rattle.words.proofs.Laws.{both, cases}
 use Rattle.packet.specs.Layout.{packed}
-use Rattle.packet.specs.Promises.{Ranges, Sound}
+use Rattle.writer.specs.Promises.{Ranges}
+use Rattle.packet.specs.Promises.{Sound}
 use Rattle.packet.specs.Reading.{messageOf, readOf}
 use Rattle.packet.specs.declared.Frame.{Frame}
 use Rattle.packet.specs.declared.Frame.the-variants as frame
 use Rattle.packet.specs.declared.Header.{Header}
 use Rattle.packet.proofs.Laws as packet
-use Rattle.packet.proofs.Inverse.{reads-back}
+use Rattle.writer.proofs.Inverse.{reads-back}
 use Rattle.vault.specs.Job.{Outcome, Switch, answered, settled}
 use Rattle.vault.specs.Product
 use Rattle.vault.specs.Vault.{inSetup, matches}
@@ -25,20 +26,20 @@ use Rattle.vault.specs.declared.Password.{Password}
 use Rattle.vault.proofs.Laws.{equal-matches, matches-equal, respond-right}
 use Rattle.paddle.specs.declared.Paddle.{Paddle}
 use Rattle.model.specs.Model.{paddleOf, room, contactCount}
-use Rattle.registers.specs.Places.{networkIn, unitIn}
+use Rattle.places.specs.Places.{networkIn, unitIn}
 use Rattle.registers.specs.declared.Seen.the-variants as seen
 use Rattle.judge.specs.Judge.{judged}
-use Rattle.judge.specs.Promises.{NotFor}
+use Rattle.reach.specs.Promises.{NotFor}
 use Rattle.judge.specs.declared.Order.{Order}
 use Rattle.judge.specs.declared.Order.the-variants as order
 use Rattle.judge.specs.declared.Work.{Work}
 use Rattle.judge.specs.declared.Work.the-variants as work
 use Rattle.judge.proofs.Laws as judge
 use Rattle.acts.specs.Core.{entering, opened, started, signalled, unwritten}
-use Rattle.acts.proofs.Laws.{work-leads}
-use Rattle.acts.specs.Code.{workLeads}
+use Rattle.orders.proofs.Laws.{work-leads}
+use Rattle.orders.specs.Code.{workLeads}
 use Rattle.post.specs.declared.Reply.the-variants as reply
-use Rattle.state.specs.Paddles.{gestureAt}
+use Rattle.panel.specs.Panel.{gestureAt}
 use Rattle.turns.specs.Turns.{Moment, turned}
 use Rattle.switch.specs.Switch.{Deed, Plain, Shown, answerOf, answerWith, event, press, receive, release, restart, tick}
 use Rattle.switch.specs.Events.{SwitchJob, outcomeOf, begun, jobOfDeed, finished, garbled, jobOfRead, job, known, plainAfter, jobOfWork, jobOfGuess, jobOfOrder, jobOfPress, jobOfFrame, jobOfBytes, refused, jobOfRelease, jobOfRestart, jobOfTick, woken}

@@ -22,12 +22,12 @@ use Rattle.paddle.specs.declared.Gesture.the-variants as gestures
 use Rattle.paddle.specs.declared.Paddle.{Paddle}
 use Rattle.paddle.proofs.Laws.{either}
 use Rattle.model.specs.Model.{room}
-use Rattle.registers.specs.Places.{counterPlace, savedPlace}
-use Rattle.registers.specs.Write.{byteAfter, byteSet, oneMore, factoryAt, sets, between}
-use Rattle.registers.specs.declared.places.Counter.the-variants.{Setups}
-use Rattle.registers.specs.declared.write.Write.{Write}
-use Rattle.registers.specs.declared.write.Write.the-variants as write
-use Rattle.acts.specs.Gestures.{leads, writes}
+use Rattle.places.specs.Places.{counterPlace, savedPlace}
+use Rattle.writes.specs.Writes.{byteAfter, byteSet, oneMore, factoryAt, sets, between}
+use Rattle.places.specs.declared.Counter.the-variants.{Setups}
+use Rattle.writes.specs.declared.Write.{Write}
+use Rattle.writes.specs.declared.Write.the-variants as write
+use Rattle.gestures.specs.Gestures.{leads, writes}
 use Rattle.switch.specs.Switch.{Deed, Plain, event, tick}
 use Rattle.switch.specs.Respond.{respond}
 use Rattle.promises.specs.Alters.{Writing, bare, byDeed, byPaddles, bySaving, byteAt, bytesAfter, writesOf}

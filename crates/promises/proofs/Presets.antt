@@ -12,9 +12,9 @@ use Rattle.vault.specs.Job.{Switch}
 use Rattle.vault.specs.Machine.{run}
 use Rattle.vault.specs.Vault.{inSetup}
 use Rattle.model.specs.Model.{room}
-use Rattle.registers.specs.Places.{savedPlace, size}
-use Rattle.registers.specs.Write.{byteAfter, byteSet, factoryAt, sets}
-use Rattle.registers.specs.declared.write.Write.the-variants as write
+use Rattle.places.specs.Places.{savedPlace, size}
+use Rattle.writes.specs.Writes.{byteAfter, byteSet, factoryAt, sets}
+use Rattle.writes.specs.declared.Write.the-variants as write
 use Rattle.switch.specs.Switch.{Event, Plain}
 use Rattle.switch.specs.Respond.{respond}
 use Rattle.promises.specs.Alters.{EachWrite, Misses, StoredAt, byteAt, writesOf}

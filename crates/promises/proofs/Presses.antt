@@ -21,7 +21,8 @@ use Rattle.vault.specs.Product.{machine}
 use Rattle.vault.specs.declared.Mode.{Mode}
 use Rattle.vault.specs.declared.Password.{Password}
 use Rattle.vault.specs.declared.Mode.the-variants.{Normal, Setup, Factory}
-use Rattle.dimmer.specs.Dimmer.{dimmer, optionsOf, stopped, stoppedFrom, ticked, tickedBy, tickedByFrom, tickedFrom}
+use Rattle.levels.specs.Levels.{optionsOf}
+use Rattle.dimmer.specs.Dimmer.{dimmer, stopped, stoppedFrom, ticked, tickedBy, tickedByFrom, tickedFrom}
 use Rattle.dimmer.specs.declared.Dimmer.{Dimmer}
 use Rattle.dimmer.specs.declared.Motion.{Motion}
 use Rattle.dimmer.specs.declared.Motion.the-variants.{Idle, Fading, Blinking}
@@ -37,18 +38,19 @@ use Rattle.lamp.specs.Lamp.{signalSet}
 use Rattle.lamp.specs.declared.Lamp.{Lamp}
 use Rattle.lamp.proofs.Laws.{output-plain}
 use Rattle.model.specs.Model.{actionPlace, drives, transmitPlace, kindOf, paddleOf, room, contactCount}
-use Rattle.registers.specs.Places.{dimmingIn, doubleIn, entryIn, entryPlace, singleIn, transmitIn}
-use Rattle.registers.specs.Write.{applied}
-use Rattle.registers.specs.declared.write.Write.{Write}
-use Rattle.registers.specs.declared.write.Write.the-variants.{Factory as FactoryValues, Nothing as Unwritten}
+use Rattle.places.specs.Places.{dimmingIn, doubleIn, entryIn, entryPlace, singleIn, transmitIn}
+use Rattle.writes.specs.Writes.{applied}
+use Rattle.writes.specs.declared.Write.{Write}
+use Rattle.writes.specs.declared.Write.the-variants.{Factory as FactoryValues, Nothing as Unwritten}
 use Rattle.acts.specs.Core.{aged, effect, entering, halted, opened, saved, setBy, setting, stopping, unwritten, signalled}
-use Rattle.acts.specs.Gestures.{acted, actedIn, byAction, far, holding, actedInFactory, actedInNormal, actedInSetup, leads, tapsInFactory, tapsInNormal, tapsInSetup, writes}
+use Rattle.gestures.specs.Gestures.{acted, actedIn, byAction, far, holding, actedInFactory, actedInNormal, actedInSetup, leads, tapsInFactory, tapsInNormal, tapsInSetup, writes}
 use Rattle.acts.specs.declared.Core.{Core}
 use Rattle.acts.specs.declared.Effect.{Effect}
-use Rattle.acts.proofs.Laws.{contact-drives, driver-halts, gesture-leads, gesture-writes}
-use Rattle.post.specs.Post.{announced, chosen, gestureMessage}
-use Rattle.state.specs.Paddles.{gestureAt, paddleAt, pressedAt, releasedAt}
-use Rattle.state.proofs.Laws.{paddle-low}
+use Rattle.acts.proofs.Laws.{contact-drives, driver-halts}
+use Rattle.gestures.proofs.Laws.{gesture-leads, gesture-writes}
+use Rattle.herald.specs.Herald.{announced, chosen, gestureMessage}
+use Rattle.panel.specs.Panel.{gestureAt, paddleAt, pressedAt, releasedAt}
+use Rattle.panel.proofs.Laws.{paddle-low}
 use Rattle.turns.specs.Turns.{Moment, after, turned, turns}
 use Rattle.turns.proofs.Laws.{turned-nothing}
 use Rattle.switch.specs.Switch.{Event, Plain, answerOf, answerWith, plain, press, release, tick}

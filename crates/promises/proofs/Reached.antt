@@ -22,8 +22,8 @@ use Rattle.paddle.specs.declared.Paddle.{Paddle}
 use Rattle.paddle.proofs.Laws.{a-tap, hold-comes, run-open}
 use Rattle.model.specs.Model.{kindOf, paddleOf, room, paddleCount}
 use Rattle.acts.specs.Core.{started}
-use Rattle.acts.specs.Gestures.{leads}
-use Rattle.state.specs.Paddles.{gestureAt, paddleAt, pressedAt, releasedAt, freshFrom}
+use Rattle.gestures.specs.Gestures.{leads}
+use Rattle.panel.specs.Panel.{gestureAt, paddleAt, pressedAt, releasedAt, freshFrom}
 use Rattle.switch.specs.Switch.{Event, Plain, press, release, tick}
 use Rattle.switch.specs.Events.{begun, jobOfDeed, finished, job, known, jobOfPress, jobOfRelease, signalledBy, woken}
 use Rattle.switch.specs.Respond.{respond, startedFrom}

@@ -11,15 +11,15 @@ use Rattle.vault.specs.Machine.{run}
 use Rattle.paddle.specs.Paddle.{freshPaddle, withContact, pressed}
 use Rattle.paddle.specs.declared.Paddle.{Paddle}
 use Rattle.model.specs.Model.{kindOf, paddleOf, room, paddleCount}
-use Rattle.registers.specs.Places.{size}
-use Rattle.post.specs.Post.{tally}
-use Rattle.state.specs.Paddles.{paddleAt, byteCount}
+use Rattle.places.specs.Places.{size}
+use Rattle.outbox.specs.Outbox.{tally}
+use Rattle.panel.specs.Panel.{paddleAt, byteCount}
 use Rattle.state.specs.State.{counterCount, numberCount}
-use Rattle.state.proofs.Laws.{fresh-count}
+use Rattle.panel.proofs.Laws.{fresh-count}
 use Rattle.switch.specs.Switch.{Arrays, Deed, Plain, answerOf, answerWith, event, keptIn, press, receive, switchIn, tick}
 use Rattle.switch.specs.Events.{woken}
 use Rattle.switch.specs.Respond.{respond, startedFrom}
-use Rattle.switch.specs.declared.Answer.{Answer}
+use Rattle.answers.specs.declared.Answer.{Answer}
 use Rattle.promises.specs.Cases.{benchImage, packetA, zeros}
 use Rattle.promises.specs.Numbers.{Unchanged, done, no-room, numberAt}
 use Rattle.promises.specs.Bounds.{Sane}

@@ -1,7 +1,9 @@
 -- All that we answer for.
-use Rattle.packet.proofs.Laws.{exactly, exactly-written, one-written}
-use Rattle.packet.proofs.Inverse.{reads-back, reads-back-lent, worked, writes-back, writes-back-lent}
-use Rattle.post.proofs.Sending.{announced-reads, announces, hides, replied-reads}
+use Rattle.packet.proofs.Laws.{exactly}
+use Rattle.writer.proofs.Laws.{exactly-written, one-written}
+use Rattle.writer.proofs.Inverse.{reads-back, reads-back-lent, worked, writes-back, writes-back-lent}
+use Rattle.herald.proofs.Announcing.{announced-reads, announces, hides}
+use Rattle.post.proofs.Sending.{replied-reads}
 use Rattle.host.specs.Host.{inFigures}
 use Rattle.host.proofs.Laws.{keeps-what-it-read, mirrors-back, refused-start-leaves-all, start-forgets, one-outcome as speaks-one-way}
 use Rattle.promises.specs.Roof.{AnsweredFor, Besides, Demand1, Demand2, Library, OneLayout}

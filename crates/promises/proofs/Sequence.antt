@@ -6,15 +6,16 @@ use lib.ListN.{length, length-replicate, replicate}
 use borrow.Author.Tests.{eq-eqb}
 use Rattle.vault.specs.Job.{Answered, Switch}
 use Rattle.vault.specs.Machine.{run, transcript}
-use Rattle.registers.specs.Places.{size}
-use Rattle.post.specs.Post.{placed}
+use Rattle.places.specs.Places.{size}
+use Rattle.outbox.specs.Outbox.{placed}
 use Rattle.state.specs.State.{counterCount, numberCount}
 use Rattle.state.specs.Keeping.{keptCounters, keptNumbers}
-use Rattle.state.specs.Paddles.{byteCount, keptPaddles}
-use Rattle.state.proofs.Laws.{counters-length, numbers-length, paddles-length}
+use Rattle.panel.specs.Panel.{byteCount, keptPaddles}
+use Rattle.state.proofs.Laws.{counters-length, numbers-length}
+use Rattle.panel.proofs.Laws.{paddles-length}
 use Rattle.switch.specs.Switch.{Plain, Shown, switchOf}
 use Rattle.switch.specs.Respond.{Leaves, respond, startAnswer, startedFrom}
-use Rattle.switch.specs.declared.Answer.{Answer}
+use Rattle.answers.specs.declared.Answer.{Answer}
 use Rattle.switch.specs.Code.{told}
 use Rattle.host.proofs.Laws.{mirrors-back}
 use Rattle.promises.specs.Bounds.{Sane}

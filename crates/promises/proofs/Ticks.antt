@@ -35,14 +35,14 @@ use Rattle.lamp.specs.Promises.{lampSkip}
 use Rattle.lamp.specs.declared.Lamp.{Lamp}
 use Rattle.lamp.proofs.Laws.{output-plain, skip-more, skip-none}
 use Rattle.model.specs.Model.{paddleOf, room, paddleCount}
-use Rattle.registers.specs.Places.{firstPlace, savedPlace, secondPlace}
-use Rattle.registers.specs.Write.{applied, changeAt, changeOf, stored}
-use Rattle.registers.specs.declared.write.Write.{Write}
-use Rattle.registers.specs.declared.write.Write.the-variants.{Save, Nothing as Unwritten}
+use Rattle.places.specs.Places.{firstPlace, savedPlace, secondPlace}
+use Rattle.writes.specs.Writes.{applied, changeAt, changeOf, stored}
+use Rattle.writes.specs.declared.Write.{Write}
+use Rattle.writes.specs.declared.Write.the-variants.{Save, Nothing as Unwritten}
 use Rattle.acts.specs.Core.{aged, core, saveTicks, saved, toSave}
 use Rattle.acts.specs.declared.Core.{Core}
-use Rattle.post.specs.Post.{tally}
-use Rattle.state.specs.Paddles.{paddleAt}
+use Rattle.outbox.specs.Outbox.{tally}
+use Rattle.panel.specs.Panel.{paddleAt}
 use Rattle.turns.specs.Turns.{after}
 use Rattle.switch.specs.Switch.{Event, Plain, Shown, answerOf, answerWith, event, plain, tick}
 use Rattle.switch.specs.Events.{begun, finished, job, signalledBy, jobOfTick}

@@ -20,16 +20,16 @@ use Rattle.vault.specs.declared.Mode.the-variants.{Setup}
 use Rattle.paddle.specs.Paddle.{gesture}
 use Rattle.paddle.specs.declared.Paddle.{Paddle}
 use Rattle.model.specs.Model.{room}
-use Rattle.registers.specs.Places.{levelPlace, secret, size}
-use Rattle.registers.specs.Write.{byteAfter, factoryAt, sets}
-use Rattle.registers.specs.declared.places.Counter.the-variants.{Restarts, Setups}
-use Rattle.registers.specs.declared.write.Write.{Write}
-use Rattle.registers.specs.declared.write.Write.the-variants.{Nothing, Count, Save, Preset, Factory, Values}
+use Rattle.places.specs.Places.{levelPlace, secret, size}
+use Rattle.writes.specs.Writes.{byteAfter, factoryAt, sets}
+use Rattle.places.specs.declared.Counter.the-variants.{Restarts, Setups}
+use Rattle.writes.specs.declared.Write.{Write}
+use Rattle.writes.specs.declared.Write.the-variants.{Nothing, Count, Save, Preset, Factory, Values}
 use Rattle.judge.specs.Judge.{judged}
 use Rattle.judge.specs.declared.Order.{Order}
 use Rattle.judge.specs.declared.Order.the-variants as order
 use Rattle.judge.specs.declared.Work.the-variants as work
-use Rattle.acts.specs.Gestures.{leads, writes}
+use Rattle.gestures.specs.Gestures.{leads, writes}
 use Rattle.switch.specs.Switch.{Deed, Event, Plain, press, receive, release, restart, tick}
 use Rattle.switch.specs.Respond.{respond}
 use Rattle.promises.specs.Bounds.{Sane}

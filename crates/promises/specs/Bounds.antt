@@ -9,9 +9,9 @@ use Rattle.vault.specs.Machine.{Throughout, run}
 use Rattle.vault.specs.Product.{machine}
 use Rattle.dimmer.specs.Dimmer.{Within}
 use Rattle.model.specs.Model.{paddleCount, place}
-use Rattle.registers.specs.Places.{size}
+use Rattle.places.specs.Places.{size}
 use Rattle.registers.specs.Registers.{Dead}
-use Rattle.post.specs.Post.{tally}
+use Rattle.outbox.specs.Outbox.{tally}
 use Rattle.post.specs.Promises.{Each}
 use Rattle.switch.specs.Switch.{Event, Plain, Shown}
 use Rattle.switch.specs.Respond.{respond, startedFrom, wallSwitch}

@@ -8,17 +8,17 @@ use Rattle.units.specs.Units.{full, off, step}
 use Rattle.vault.specs.Job.{Switch}
 use Rattle.vault.specs.Vault.{password}
 use Rattle.vault.specs.declared.Mode.the-variants.{Normal, Setup}
-use Rattle.dimmer.specs.Dimmer.{optionsOf}
+use Rattle.levels.specs.Levels.{optionsOf}
 use Rattle.dimmer.specs.declared.Motion.the-variants.{Idle}
 use Rattle.paddle.specs.declared.Gesture.the-variants.{Taps}
 use Rattle.lamp.specs.declared.Colour.the-variants.{Green, Red}
 use Rattle.model.specs.Model.{room, contactCount}
-use Rattle.registers.specs.Places.{dimmingIn, networkIn, size, unitIn}
+use Rattle.places.specs.Places.{dimmingIn, networkIn, size, unitIn}
 use Rattle.registers.specs.Registers.{found}
 use Rattle.registers.specs.declared.Found.the-variants.{At}
 use Rattle.judge.specs.Judge.{driving}
 use Rattle.judge.specs.declared.Drive.the-variants as drive
-use Rattle.post.specs.Promises.{CaseJ}
+use Rattle.herald.specs.Promises.{CaseJ}
 use Rattle.switch.specs.Switch.{Plain, event, receive}
 use Rattle.switch.specs.Respond.{respond, startAnswer, startedFrom}
 use Rattle.promises.specs.Numbers.{Asks, numberAt}

@@ -6,7 +6,7 @@ use Rattle.vault.specs.Job.{Switch}
 use Rattle.paddle.specs.Paddle.{freshPaddle}
 use Rattle.paddle.specs.Promises.{Same, raised}
 use Rattle.model.specs.Model.{room}
-use Rattle.state.specs.Paddles.{paddleAt}
+use Rattle.panel.specs.Panel.{paddleAt}
 use Rattle.switch.specs.Switch.{Event, Plain, event, restart}
 use Rattle.switch.specs.Respond.{respond, startedFrom}
 use Rattle.promises.specs.Bounds.{Sane}

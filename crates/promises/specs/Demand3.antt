@@ -9,9 +9,9 @@ use Rattle.vault.specs.Machine.{run, transcript}
 use Rattle.vault.specs.Product.{StaysOut, alone, machine}
 use Rattle.vault.specs.Promises.{KeepsItsPassword}
 use Rattle.vault.specs.Vault.{inSetup}
-use Rattle.registers.specs.Places.{size, secret}
+use Rattle.places.specs.Places.{size, secret}
 use Rattle.registers.specs.Registers.{Dead, imageOf}
-use Rattle.post.specs.Post.{placed}
+use Rattle.outbox.specs.Outbox.{placed}
 use Rattle.switch.specs.Switch.{Plain, Shown, Deed, Event, event}
 use Rattle.switch.specs.Respond.{startedFrom, wallSwitch}
 

@@ -10,7 +10,7 @@ use Rattle.paddle.specs.declared.Gesture.the-variants.{Taps}
 use Rattle.paddle.specs.declared.Paddle.{Paddle}
 use Rattle.model.specs.Model.{room}
 use Rattle.acts.specs.Core.{aged}
-use Rattle.acts.specs.Gestures.{leads}
+use Rattle.gestures.specs.Gestures.{leads}
 use Rattle.turns.specs.Turns.{turns}
 use Rattle.switch.specs.Switch.{Plain, event, tick}
 use Rattle.switch.specs.Events.{begun}

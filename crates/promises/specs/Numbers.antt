@@ -15,13 +15,13 @@ use Rattle.vault.specs.declared.Password.{Password}
 use Rattle.paddle.specs.Promises.{touched}
 use Rattle.lamp.specs.declared.Colour.the-variants.{Black}
 use Rattle.model.specs.Model.{kindOf, room, contactCount}
-use Rattle.registers.specs.Places.{size}
+use Rattle.places.specs.Places.{size}
 use Rattle.judge.specs.Promises.{Accepted, Refusal}
 use Rattle.judge.specs.declared.Order.{Order}
 use Rattle.judge.specs.declared.Order.the-variants as order
 use Rattle.acts.specs.Core.{signalled}
-use Rattle.post.specs.Post.{placed}
-use Rattle.state.specs.Paddles.{paddleAt}
+use Rattle.outbox.specs.Outbox.{placed}
+use Rattle.panel.specs.Panel.{paddleAt}
 use Rattle.switch.specs.Switch.{Deed, Event, Plain, answerOf, event, plain, press, receive, release, restart, tick}
 use Rattle.switch.specs.Respond.{respond, startAnswer}
 

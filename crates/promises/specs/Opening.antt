@@ -5,14 +5,14 @@ use mathlib.Core.Logic.{_⊎_}
 use mathlib.Core.Path.{_≡_}
 use Prim.Native.Nat.{ℕ, _≤_}
 use Rattle.packet.specs.Layout.{packed}
-use Rattle.packet.specs.Promises.{Ranges}
+use Rattle.writer.specs.Promises.{Ranges}
 use Rattle.packet.specs.declared.Header.{Header}
 use Rattle.vault.specs.Job.{Switch}
 use Rattle.vault.specs.Vault.{inSetup}
 use Rattle.vault.specs.declared.Mode.the-variants.{Normal, Setup}
 use Rattle.vault.specs.declared.Password.{Password}
 use Rattle.model.specs.Model.{room}
-use Rattle.registers.specs.Places.{networkIn, unitIn}
+use Rattle.places.specs.Places.{networkIn, unitIn}
 use Rattle.switch.specs.Switch.{Deed, Event, Plain, event, receive, tick}
 use Rattle.switch.specs.Respond.{respond}
 use Rattle.promises.specs.Demand3.{Outside}

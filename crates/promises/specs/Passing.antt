@@ -18,11 +18,11 @@ use Rattle.paddle.specs.declared.Gesture.{Gesture}
 use Rattle.paddle.specs.declared.Gesture.the-variants as gestures
 use Rattle.paddle.specs.declared.Paddle.{Paddle}
 use Rattle.model.specs.Model.{room}
-use Rattle.registers.specs.Places.{counterPlace, savedPlace, size}
-use Rattle.registers.specs.Write.{byteAfter, oneMore}
-use Rattle.registers.specs.declared.places.Counter.the-variants.{Setups}
-use Rattle.registers.specs.declared.write.Write.the-variants as write
-use Rattle.acts.specs.Gestures.{leads}
+use Rattle.places.specs.Places.{counterPlace, savedPlace, size}
+use Rattle.writes.specs.Writes.{byteAfter, oneMore}
+use Rattle.places.specs.declared.Counter.the-variants.{Setups}
+use Rattle.writes.specs.declared.Write.the-variants as write
+use Rattle.gestures.specs.Gestures.{leads}
 use Rattle.switch.specs.Switch.{Event, Plain, event, press, release, tick}
 use Rattle.switch.specs.Respond.{respond, startedFrom}
 use Rattle.promises.specs.Alters.{byteAt}

@@ -6,7 +6,7 @@ use Prim.Native.Nat.{ℕ, _≤_}
 use Rattle.vault.specs.Job.{Switch}
 use Rattle.vault.specs.Machine.{Throughout, run}
 use Rattle.vault.specs.Product.{machine}
-use Rattle.registers.specs.Write.{factoryAt}
+use Rattle.writes.specs.Writes.{factoryAt}
 use Rattle.judge.specs.declared.Order.the-variants as order
 use Rattle.judge.specs.declared.Work.the-variants as work
 use Rattle.switch.specs.Switch.{Deed, Event, Plain, receive}

@@ -5,13 +5,13 @@ use Prim.Native.Nat.{ℕ, zero, suc}
 use lib.ListN.{length}
 use Rattle.vault.specs.Machine.{run}
 use Rattle.vault.specs.Product.{machine}
-use Rattle.registers.specs.Places.{size}
-use Rattle.post.specs.Post.{placed, tally}
+use Rattle.places.specs.Places.{size}
+use Rattle.outbox.specs.Outbox.{placed, tally}
 use Rattle.state.specs.State.{counterCount, numberCount}
-use Rattle.state.specs.Paddles.{byteCount}
+use Rattle.panel.specs.Panel.{byteCount}
 use Rattle.switch.specs.Switch.{Arrays, Deed, Event, answerWith, event, keptIn, switchIn}
 use Rattle.switch.specs.Respond.{Responds, Starts, respond, startedFrom, wallSwitch}
-use Rattle.switch.specs.declared.Answer.{Answer}
+use Rattle.answers.specs.declared.Answer.{Answer}
 
 -- What an event function hands back.
 pub record Told : Type 0 where

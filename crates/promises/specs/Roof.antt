@@ -2,8 +2,10 @@
 use mathlib.Core.List.{List}
 use Prim.Native.Nat.{ℕ}
 use Rattle.units.specs.declared.Percent.{Percent}
-use Rattle.packet.specs.Promises.{ReadExactly, ReadsBack, ReadsBackLent, WorkedPackets, WritesBack, WritesBackLent, WritesOneWay, WrittenExactly}
-use Rattle.post.specs.Promises.{AnnouncedReads, Announces, Hides, RepliedReads}
+use Rattle.packet.specs.Promises.{ReadExactly}
+use Rattle.writer.specs.Promises.{ReadsBack, ReadsBackLent, WorkedPackets, WritesBack, WritesBackLent, WritesOneWay, WrittenExactly}
+use Rattle.herald.specs.Promises.{AnnouncedReads, Announces, Hides}
+use Rattle.post.specs.Promises.{RepliedReads}
 use Rattle.host.specs.Host.{KeepsWhatItRead, MirrorsBack, RefusedStartLeavesAll, SpeaksOneWay, StartForgets, inFigures}
 use Rattle.promises.specs.Demand3.{Demand3}
 use Rattle.promises.specs.Bounds.{WithinBounds}

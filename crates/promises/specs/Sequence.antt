@@ -4,10 +4,10 @@ use mathlib.Core.Path.{_≡_}
 use Prim.Native.Nat.{ℕ}
 use lib.ListN.{length}
 use Rattle.vault.specs.Job.{Switch}
-use Rattle.registers.specs.Places.{size}
+use Rattle.places.specs.Places.{size}
 use Rattle.switch.specs.Switch.{Plain, Shown, answerOf, switchOf}
 use Rattle.switch.specs.Respond.{Leaves, Starts, respond, startedFrom}
-use Rattle.switch.specs.declared.Answer.{Answer}
+use Rattle.answers.specs.declared.Answer.{Answer}
 use Rattle.switch.specs.Code.{told}
 use Rattle.promises.specs.Demand3.{Lent, afterAll, eventOf, filled, seenOf}
 

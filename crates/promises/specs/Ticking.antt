@@ -24,13 +24,14 @@ use Rattle.lamp.specs.Promises.{lampSkip}
 use Rattle.lamp.specs.declared.Colour.{Colour}
 use Rattle.lamp.specs.declared.Colour.the-variants.{Black}
 use Rattle.model.specs.Model.{paddleOf, room, paddleCount}
-use Rattle.registers.specs.Write.{applied}
-use Rattle.registers.specs.declared.write.Write.the-variants.{Save}
+use Rattle.writes.specs.Writes.{applied}
+use Rattle.writes.specs.declared.Write.the-variants.{Save}
 use Rattle.acts.specs.Core.{core, saveTicks}
-use Rattle.acts.specs.Gestures.{acted}
+use Rattle.gestures.specs.Gestures.{acted}
 use Rattle.acts.specs.declared.Core.{Core}
-use Rattle.post.specs.Post.{announced, tally}
-use Rattle.state.specs.Paddles.{paddleAt}
+use Rattle.herald.specs.Herald.{announced}
+use Rattle.outbox.specs.Outbox.{tally}
+use Rattle.panel.specs.Panel.{paddleAt}
 use Rattle.switch.specs.Switch.{Deed, Event, Plain, Shown, event, plain, press, release, tick}
 use Rattle.switch.specs.Respond.{respond, wallSwitch}
 

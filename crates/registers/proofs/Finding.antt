@@ -7,7 +7,7 @@ use native.Mathlib.Omega.{arith}
 use lib.Dec.{eqb}
 use borrow.Author.Tests.{eqb-true, eqb-false}
 use Rattle.words.proofs.Laws.{three-ways, two-ways}
-use Rattle.registers.specs.Places.{components, linkOf}
+use Rattle.places.specs.Places.{components, linkOf}
 use Rattle.registers.specs.Registers.{valid, seek, found}
 use Rattle.registers.specs.declared.Found.{Found}
 use Rattle.registers.specs.declared.Found.the-variants.{At, Nowhere}

@@ -12,9 +12,10 @@ use lib.ListN.{length, getD, set, take, length-set, List·getD-eq-default}
 use lib.Seq.{ext-getD, getD-set-other, take-suc-set}
 use borrow.Author.Tests.{eqb-true, eqb-false, eq-eqb, ne-eqb, lt-ltb, le-ltb}
 use Rattle.words.specs.Words.{Bytes}
-use Rattle.words.proofs.Laws.{both, cases, neither, two-ways}
+use Rattle.words.proofs.Laws.{both, cases, two-ways}
 use Rattle.vault.specs.declared.Password.{Password}
-use Rattle.registers.specs.Places.{size, firstPlace, secondPlace, secret}
+use Rattle.places.specs.Places.{size, firstPlace, secondPlace, secret}
+use Rattle.places.proofs.Laws.{not-secret, by-secret}
 use Rattle.registers.specs.Registers.{passwordIn, apart, imageOf, Dead, numberTaken, firstSeen, secondSeen, readAt, rangeOf}
 use Rattle.registers.specs.declared.Seen.{Seen}
 use Rattle.registers.specs.declared.Seen.the-variants.{Hidden, Shown}
@@ -71,16 +72,6 @@ apart-dead (a ∷ b ∷ []) = (refl, refl)
 apart-dead (a ∷ b ∷ c ∷ []) = (refl, refl)
 apart-dead (a ∷ b ∷ c ∷ d ∷ rest) = (refl, refl)
 
--- A place that is not the password's is neither of the two.
-pub not-secret : (k : ℕ) → secret k ≡ false → (k ≢ firstPlace) × (k ≢ secondPlace)
-not-secret k h =
-    let parts = neither (eqb k firstPlace) (eqb k secondPlace) h in
-    (eqb-false k firstPlace (parts .0), eqb-false k secondPlace (parts .1))
-
--- A place past 0x03 is not the password's.
-pub plain : (k : ℕ) → secondPlace < k → secret k ≡ false
-plain k h = simp (ne-eqb k firstPlace (λ e. omega arith), ne-eqb k secondPlace (λ e. omega arith))
-
 -- No place but the password's two depends on the password: every other reads the same in an image and in the registers taken from it,
 pub apart-other : (image : List ℕ) (k : ℕ) → secret k ≡ false → getD (apart image) k 0 ≡ getD image k 0
 unfolding apart
@@ -104,15 +95,6 @@ apart-length image = simp length-set
 pub image-length : (all : List ℕ) (w : Password) → length (imageOf all w) ≡ length all
 unfolding imageOf
 image-length all w = simp length-set
-
--- A place is 0x02, or 0x03, or none of the password's.
-pub by-secret {ℓ} : {X : Type ℓ} (k : ℕ) → (k ≡ firstPlace → X) → (k ≡ secondPlace → X) → (secret k ≡ false → X) → X
-by-secret {X} k at-first at-second elsewhere = go (eqb k firstPlace) refl (eqb k secondPlace) refl
-  where
-    go : (a : Bool) → eqb k firstPlace ≡ a → (b : Bool) → eqb k secondPlace ≡ b → X
-    go true e b f = at-first (eqb-true k firstPlace e)
-    go false e true f = at-second (eqb-true k secondPlace f)
-    go false e false f = elsewhere (rw (e, f))
 
 -- Images that are alike but for the password have the same registers.
 pub alike-apart : (a b : List ℕ) → length a ≡ length b → ((k : ℕ) → secret k ≡ false → getD a k 0 ≡ getD b k 0) → apart a ≡ apart b

@@ -2,18 +2,14 @@
 use mathlib.Core.Path.{_≡_}
 use mathlib.Core.List.{List}
 use mathlib.Core.Logic.{_↔_}
-use Prim.Native.Nat.{ℕ, zero, suc, _+_, _<_}
+use Prim.Native.Nat.{ℕ, _<_}
 use lib.Dec.{eqb}
 use lib.ListN.{length}
 use Rattle.words.specs.Words.{if_then_else_}
-use Rattle.registers.specs.Places.{size, components, linkOf, secret}
+use Rattle.places.specs.Places.{size, components, linkOf}
 use Rattle.registers.specs.declared.Taken.{Taken}
 use Rattle.registers.specs.declared.Taken.the-variants.{Apart, Refused}
 use Rattle.registers.specs.Registers.{passwordIn, apart, numberTaken}
-use Rattle.registers.specs.declared.write.Write.{Write}
-use Rattle.registers.specs.declared.write.Write.the-variants.{Nothing, Count, Save, Preset, Factory, Values}
-use Rattle.registers.specs.Write.{sets, stored}
-use mathlib.Core.Bool.{Bool, false}
 
 -- 01, Events and time, 1: an image of 256 bytes is taken; any other is refused.
 unfoldable pub takenOf : List ℕ → Taken
@@ -40,21 +36,3 @@ FirstWith all link i = (i < components) × ((linkOf all i ≡ link) × ((j : ℕ
 -- None of the sixteen components has this link.
 abbrev pub NoneWith : List ℕ → ℕ → Type 0
 NoneWith all link = (j : ℕ) → j < components → linkOf all j ≡ link → ⊥
-
--- Which places of the array a write sets: those of the 256 bytes, but never the password's two.
-unfoldable pub touches : Write → ℕ → ℕ → Bool
-touches write count place = if secret place then false else sets write count place
-
--- The array with one value written in n places, from a place on.
-unfoldable pub filled : ℕ → ℕ → ℕ → List ℕ → List ℕ
-filled first zero value all = all
-filled first (suc n) value all = stored (first + n) value (filled first n value all)
-
--- The percents that a write holds are bytes.
-abbrev pub PercentByte : Write → Type 0
-PercentByte Nothing = Unit {0}
-PercentByte (Count counter) = Unit {0}
-PercentByte (Save percent) = percent .0 < 256
-PercentByte (Preset component percent) = percent .0 < 256
-PercentByte Factory = Unit {0}
-PercentByte (Values first) = Unit {0}

@@ -1,4 +1,2 @@
-pub mod Places
 pub mod Registers
-pub mod Write
 pub mod Code

@@ -8,7 +8,7 @@ use lib.ListN.{getD, set}
 use Rattle.words.specs.Words.{if_then_else_}
 use Rattle.vault.specs.Vault.{password}
 use Rattle.vault.specs.declared.Password.{Password}
-use Rattle.registers.specs.Places.{size, firstPlace, secondPlace, components, linkOf}
+use Rattle.places.specs.Places.{size, firstPlace, secondPlace, components, linkOf}
 use Rattle.registers.specs.declared.Seen.{Seen}
 use Rattle.registers.specs.declared.Seen.the-variants.{Hidden, Shown}
 use Rattle.registers.specs.declared.Taken.{Taken}

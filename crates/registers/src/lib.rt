@@ -5,15 +5,11 @@ ghost use lib.ListN.{length};
 ghost use Rattle.registers.specs.Registers.{imageOf, rangeOf, heldAt, masked, firstSeen, secondSeen, found, numberTaken, valid};
 ghost use Rattle.registers.specs.declared.Seen.{Seen};
 ghost use Rattle.registers.specs.Code.{Took};
-use vault::Password;
-
-pub mod places;
-pub mod write;
-
 use places::COMPONENTS;
 use places::FIRST;
 use places::SECOND;
 use places::SIZE;
+use vault::Password;
 
 // What taking an image gives: its password, or the refusal 1.
 pub enum Taken {

@@ -1,17 +1,15 @@
--- Keeping what was read changes nothing, a part that is kept leaves the others alone, and what was kept is read back: of the core and the
--- password here, of the paddles in the second half.
-use mathlib.Core.Bool.{Bool, true, false, not, _&&_, _||_, true≢false}
-use mathlib.Core.List.{List, [], _∷_, map}
+-- Keeping what was read changes nothing, a part that is kept leaves the others alone, and what was kept is read back.
+use mathlib.Core.Bool.{Bool, true, false, not, _||_, true≢false}
+use mathlib.Core.List.{List, [], _∷_}
 use mathlib.Core.Path.{_≡_, refl, sym, ap, _∙_}
-use Prim.Native.Nat.{ℕ, zero, suc, _+_, _/_, _%_, _≤_, _<_}
-use native.Mathlib.Nat.{div-div-eq-div-mul}
+use Prim.Native.Nat.{ℕ, zero, suc}
 use native.Mathlib.Omega.{arith}
-use lib.Dec.{eqb, leb, ltb}
-use lib.ListN.{length, getD, set, drop, length-set, length-map, replicate}
-use lib.Seq.{set-getD, getD-set-other, getD-set-same}
+use lib.Dec.{eqb, ltb}
+use lib.ListN.{length, getD, set, drop, length-set}
+use lib.Seq.{set-getD}
 use borrow.Author.Tests.{lt-ltb, eq-eqb, ne-eqb, eqb-true}
-use Rattle.words.specs.Words.{if_then_else_}
-use Rattle.words.proofs.Laws.{cases, neither}
+use Rattle.words.specs.Words.{if_then_else_, keptAt}
+use Rattle.words.proofs.Laws.{cases, kept-back, kept-same, other-place}
 use Rattle.timers.specs.Timers.{less, metronome}
 use Rattle.units.specs.Units.{step}
 use Rattle.units.specs.declared.Step.{Step}
@@ -26,41 +24,21 @@ use Rattle.lamp.specs.Lamp.{lamp}
 use Rattle.lamp.specs.declared.Colour.{Colour}
 use Rattle.lamp.specs.declared.Colour.the-variants.{Black, Red, Green, Orange}
 use Rattle.lamp.specs.declared.Lamp.{Lamp}
-use Rattle.paddle.specs.Paddle.{paddle, freshPaddle, down, pressed, released, gestureUp, ends, closing, completed, gesture, left, tapsKept, nextPaddle}
-use Rattle.paddle.specs.declared.Contact.{Contact}
-use Rattle.paddle.specs.declared.Gesture.{Gesture}
-use Rattle.paddle.specs.declared.Gesture.the-variants.{Nothing, Taps, Hold, Release}
-use Rattle.paddle.specs.declared.Paddle.{Paddle}
-use Rattle.paddle.specs.declared.Turn.{Turn}
-use Rattle.paddle.specs.Code.{turn, completesNothing}
 use Rattle.acts.specs.Core.{core}
 use Rattle.acts.specs.declared.Core.{Core}
-use Rattle.model.specs.Model.{paddleCount, paddleOf, kindOf}
-use Rattle.state.specs.Kinds.{modeOf, modeNumber, colourFrom, colourNumber, motionOf, kindNumber, localIn, slaveIn, contactsNumber}
+use Rattle.state.specs.Kinds.{modeOf, modeNumber, colourFrom, colourNumber, motionOf, kindNumber}
 use Rattle.state.specs.State.{counterCount, numberCount, kindIndex, lastIndex, leftIndex, periodIndex, targetIndex}
 use Rattle.state.specs.State.{passwordOf, modeIn, levelIn, dimmerOf, lampOf, saveIn, coreOf}
-use Rattle.state.specs.Keeping.{keptAt, keptPassword, keptMode, keptHue, keptKind, keptTarget, keptLevels, keptNumbers}
-use Rattle.state.specs.Keeping.{keptCourse, keptSave, keptTimers, keptCounters}
-use Rattle.state.specs.Paddles.{contactsIndex, tapsIndex, holdIndex, gapIndex, byteCount, paddleFrom, paddlesFrom, paddlesOf}
-use Rattle.state.specs.Paddles.{keptContacts, keptPaddle, keptFrom, keptPaddles, pressedAt, releasedAt, gestureAt, freshFrom, freshPaddles}
-use Rattle.state.specs.Code.{Sized, idleIn, leftIn, keptLeft, DimmerKept, LampKept, CoreKept, Lifts}
-use Rattle.state.specs.Code.{loudAt, loudFrom, quietBytes, leftBy, ranAt, ranFrom, ranBytes}
+use Rattle.state.specs.Keeping.{keptPassword, keptMode, keptHue, keptKind, keptTarget, keptLevels, keptNumbers, keptCourse, keptSave, keptTimers, keptCounters}
+use Rattle.state.specs.Code.{Sized, idleIn, leftIn, keptLeft, DimmerKept, LampKept, CoreKept}
 
--- What is set at one place leaves the others; at places that are known a test says that they are others.
-other-place : (l : List ℕ) (i v j : ℕ) → (j ≡ i → ⊥) → getD (set l i v) j 0 ≡ getD l j 0
-other-place l i v j other = getD-set-other l i j v 0 other
-
+-- At places that are known a test says that they are others.
 elsewhere : (l : List ℕ) (i v j : ℕ) → eqb j i ≡ false → getD (set l i v) j 0 ≡ getD l j 0
 elsewhere l i v j other = other-place l i v j (λ e. true≢false (sym (eq-eqb j i e) ∙ other))
 
 kept-elsewhere : (plain new i : ℕ) (l : List ℕ) (j : ℕ) → eqb j i ≡ false → getD (keptAt plain new i l) j 0 ≡ getD l j 0
 unfolding keptAt
 kept-elsewhere plain new i l j other = elsewhere l i _ j other
-
--- A number that stands for what is kept stays.
-kept-same : (n place : ℕ) (l : List ℕ) → keptAt n n place l ≡ l
-unfolding keptAt
-kept-same n place l = rw (eq-eqb n n refl, set-getD l place 0)
 
 -- A motion as its kind's two tests pick it.
 abbrev picked : Bool → Bool → ℕ → ℕ → ℕ → Motion
@@ -371,6 +349,10 @@ course-length Idle l = refl
 course-length (Fading target period left) l = simp length-set
 course-length (Blinking period left) l = simp length-set
 
+save-length : (s : ℕ) (l : List ℕ) → length (keptSave s l) ≡ length l
+unfolding keptSave
+save-length s l = length-set l _ s
+
 pub counters-length : (k : Core) (c : List ℕ) → length (keptCounters k c) ≡ length c
 unfolding keptCounters keptSave keptTimers
 counters-length k c = simp (length-set, course-length)
@@ -395,15 +377,6 @@ colour-back Black = refl
 colour-back Red = refl
 colour-back Green = refl
 colour-back Orange = refl
-
--- What stands at a place after a keeping is read as what was kept.
-kept-back :
-    (X : Type 0) (read : ℕ → X) (tell : X → ℕ) → ((x : X) → read (tell x) ≡ x)
-    → (x : X) (old : ℕ) → read (if eqb (tell (read old)) (tell x) then old else tell x) ≡ x
-kept-back X read tell law x old =
-    cases (λ (n : ℕ). read n ≡ x) (eqb (tell (read old)) (tell x))
-    (λ same. sym (law (read old)) ∙ (ap read (eqb-true _ _ same) ∙ law x))
-    (λ other. law x)
 
 mode-kept : (mode : Mode) (old : ℕ) → modeOf (if eqb (modeNumber (modeOf old)) (modeNumber mode) then old else modeNumber mode) ≡ mode
 mode-kept = kept-back Mode modeOf modeNumber mode-back
@@ -496,355 +469,48 @@ unfolding keptCounters keptNumbers
 core-kept k w c n n₁ n₂ c₁ n₃ c₂ c₃ n₄ password mode dimmer save lamp =
     record { counted = rw (lamp .counted, save, dimmer .counted); numbered = rw (lamp .numbered, dimmer .numbered, mode, password) }
 
--- The contacts in a number and back.
-contacts-back : (x : Bool × Bool) → (localIn (contactsNumber (x .0) (x .1)), slaveIn (contactsNumber (x .0) (x .1))) ≡ x
-unfolding localIn slaveIn contactsNumber
-contacts-back (true, true) = refl
-contacts-back (true, false) = refl
-contacts-back (false, true) = refl
-contacts-back (false, false) = refl
+-- Password and mode kept after the dimmer are kept as before it; the save kept after the lamp, too.
+spread-order :
+    (w : Password) (mode : Mode) (level last : Step) (motion : Motion) (n : List ℕ)
+    → let d = dimmer level last motion in
+    keptPassword w (keptMode mode (keptLevels d (spread numberCount n))) ≡ keptLevels d (keptMode mode (keptPassword w (spread numberCount n)))
+unfolding keptLevels keptKind keptTarget keptMode keptPassword keptAt
+spread-order w mode level last Idle n = refl
+spread-order w mode level last (Fading target period left) n = refl
+spread-order w mode level last (Blinking period left) n = refl
 
-contacts-kept :
-    (x : Bool × Bool) (old : ℕ)
-    → let new = contactsNumber (x .0) (x .1) in
-    let n = if eqb (contactsNumber (localIn old) (slaveIn old)) new then old else new in
-    (localIn n, slaveIn n) ≡ x
-contacts-kept = kept-back (Bool × Bool) (λ n. (localIn n, slaveIn n)) (λ x. contactsNumber (x .0) (x .1)) contacts-back
+levels-first :
+    (w : Password) (mode : Mode) (d : Dimmer) (n : List ℕ) → length n ≡ numberCount
+    → keptPassword w (keptMode mode (keptLevels d n)) ≡ keptLevels d (keptMode mode (keptPassword w n))
+levels-first w mode d n long = rw (spread-all numberCount n long) (spread-order w mode (d .level) (d .last) (d .motion) n)
 
--- A paddle that is kept as it was read.
-pub paddle-same : (i : ℕ) (l : List ℕ) → keptPaddle i (paddleFrom i l) l ≡ l
-unfolding keptPaddle keptContacts paddleFrom
-paddle-same i l = simp (kept-same, set-getD)
-
-from-same : (i n : ℕ) (l : List ℕ) → keptFrom i (paddlesFrom i n l) l ≡ l
-unfolding keptFrom paddlesFrom
-from-same i zero l = refl
-from-same i (suc n) l =
-    ap (λ (m : List ℕ). keptFrom (suc i) (paddlesFrom (suc i) n l) m) (paddle-same i l) ∙ from-same (suc i) n l
-
-pub paddles-same : (l : List ℕ) → keptPaddles (paddlesOf l) l ≡ l
-paddles-same l = from-same 0 paddleCount l
-
--- A paddle that is kept leaves the bytes of the others alone.
-bytes-apart :
-    (i : ℕ) (p : Paddle) (l : List ℕ) (place : ℕ)
-    → (place ≡ contactsIndex i → ⊥)
-    → (place ≡ tapsIndex i → ⊥)
-    → (place ≡ holdIndex i → ⊥)
-    → (place ≡ gapIndex i → ⊥)
-    → getD (keptPaddle i p l) place 0 ≡ getD l place 0
-unfolding keptPaddle keptContacts keptAt
-bytes-apart i p l place contacts taps hold gap =
-    rw (
-      other-place _ (gapIndex i) _ place gap,
-      other-place _ (holdIndex i) _ place hold,
-      other-place _ (tapsIndex i) _ place taps,
-      other-place l (contactsIndex i) _ place contacts,
+pub shift-keeps :
+    (c n : List ℕ) (k : Core) (w : Password) → Sized c n → k .save ≡ saveIn c → k .lamp .hue ≡ lampOf c n .hue
+    → (keptTimers (k .lamp) (keptCourse (k .dimmer .motion) c) ≡ keptCounters k c)
+    × (keptPassword w (keptMode (k .mode) (keptLevels (k .dimmer) n)) ≡ keptNumbers k w n)
+unfolding keptCounters keptNumbers
+shift-keeps c n k w sized saves same =
+    let x = keptLevels (k .dimmer) (keptMode (k .mode) (keptPassword w n)) in
+    let read : lampOf c x ≡ lampOf c n = lamp-of-levels (k .dimmer) c _ ∙ lamp-of-mode (k .mode) c _ ∙ lamp-of-password w c n in
+    let hue : k .lamp .hue ≡ lampOf c x .hue = same ∙ ap (λ (l : Lamp). l .hue) (sym read) in (
+      ap (keptTimers (k .lamp)) (sym (ap (λ (s : ℕ). keptSave s (keptCourse (k .dimmer .motion) c)) saves ∙ save-after (k .dimmer .motion) c)),
+      levels-first w (k .mode) (k .dimmer) n (sized .numbered) ∙ sym (ap (λ (h : Colour). keptHue h x) hue ∙ hue-same c x),
     )
 
-paddle-apart : (i j : ℕ) (p : Paddle) (l : List ℕ) → (i ≡ j → ⊥) → i < paddleCount → j < paddleCount → paddleFrom j (keptPaddle i p l) ≡ paddleFrom j l
-unfolding paddleFrom
-paddle-apart i j p l other h k =
-    rw (
-      bytes-apart i p l (contactsIndex j) (λ e. other (omega arith)) (λ e. omega arith) (λ e. omega arith) (λ e. omega arith),
-      bytes-apart i p l (tapsIndex j) (λ e. omega arith) (λ e. other (omega arith)) (λ e. omega arith) (λ e. omega arith),
-      bytes-apart i p l (holdIndex j) (λ e. omega arith) (λ e. omega arith) (λ e. other (omega arith)) (λ e. omega arith),
-      bytes-apart i p l (gapIndex j) (λ e. omega arith) (λ e. omega arith) (λ e. omega arith) (λ e. other (omega arith)),
-    )
+save-order : (l : Lamp) (s : ℕ) (c : List ℕ) → length c ≡ counterCount → keptSave s (keptTimers l c) ≡ keptTimers l (keptSave s c)
+unfolding keptSave keptTimers
+save-order l s c long = rw (spread-all counterCount c long)
 
-pub from-apart : (i n j : ℕ) (p : Paddle) (l : List ℕ) → j < i → i + n ≤ paddleCount → paddlesFrom i n (keptPaddle j p l) ≡ paddlesFrom i n l
-unfolding paddlesFrom
-from-apart i zero j p l low fits = refl
-from-apart i (suc n) j p l low fits =
-    rw (
-      paddle-apart j i p l (λ e. omega arith) (omega arith) (omega arith),
-      from-apart (suc i) n j p l (omega arith) (omega arith),
-    )
+save-again : (s r : ℕ) (c : List ℕ) → length c ≡ counterCount → keptSave s (keptSave r c) ≡ keptSave s c
+unfolding keptSave
+save-again s r c long = rw (spread-all counterCount c long)
 
-kept-below : (i j : ℕ) (ps : List Paddle) (l : List ℕ) → j < i → i + length ps ≤ paddleCount → paddleFrom j (keptFrom i ps l) ≡ paddleFrom j l
-unfolding keptFrom
-kept-below i j [] l low fits = refl
-kept-below i j (p ∷ ps) l low fits =
-    kept-below (suc i) j ps (keptPaddle i p l) (omega arith) (omega arith) ∙ paddle-apart i j p l (λ e. omega arith) (omega arith) (omega arith)
-
--- What is kept leaves as many bytes as there were.
-paddle-length : (i : ℕ) (p : Paddle) (l : List ℕ) → length (keptPaddle i p l) ≡ length l
-unfolding keptPaddle keptContacts keptAt
-paddle-length i p l = simp length-set
-
-from-length : (i : ℕ) (ps : List Paddle) (l : List ℕ) → length (keptFrom i ps l) ≡ length l
-unfolding keptFrom
-from-length i [] l = refl
-from-length i (p ∷ ps) l = from-length (suc i) ps (keptPaddle i p l) ∙ paddle-length i p l
-
-pub paddles-length : (ps : List Paddle) (l : List ℕ) → length (keptPaddles ps l) ≡ length l
-paddles-length ps l = from-length 0 ps l
-
--- A paddle in its bytes and back.
-paddle-back : (i : ℕ) (p : Paddle) (l : List ℕ) → length l ≡ byteCount → i < paddleCount → paddleFrom i (keptPaddle i p l) ≡ p
-unfolding paddleFrom keptPaddle keptContacts keptAt
-paddle-back i p l long h =
-    let new = contactsNumber (p .local) (p .slave) in
-    let old = getD l (contactsIndex i) 0 in
-    let n = if eqb (contactsNumber (localIn old) (slaveIn old)) new then old else new in
-    let a = set l (contactsIndex i) n in
-    let b = set a (tapsIndex i) (p .taps) in
-    let c = set b (holdIndex i) (p .hold) in
-    let long-a : length a ≡ byteCount = length-set l _ _ ∙ long in
-    let long-b : length b ≡ byteCount = length-set a _ _ ∙ long-a in
-    let long-c : length c ≡ byteCount = length-set b _ _ ∙ long-b in
-    let contacts : getD (set c (gapIndex i) (p .gap)) (contactsIndex i) 0 ≡ n =
-    rw (
-      other-place c (gapIndex i) (p .gap) (contactsIndex i) (λ e. omega arith),
-      other-place b (holdIndex i) (p .hold) (contactsIndex i) (λ e. omega arith),
-      other-place a (tapsIndex i) (p .taps) (contactsIndex i) (λ e. omega arith),
-    )
-    (getD-set-same l (contactsIndex i) n 0 (omega arith)) in
-    let taps : getD (set c (gapIndex i) (p .gap)) (tapsIndex i) 0 ≡ p .taps =
-    rw (
-      other-place c (gapIndex i) (p .gap) (tapsIndex i) (λ e. omega arith),
-      other-place b (holdIndex i) (p .hold) (tapsIndex i) (λ e. omega arith),
-    )
-    (getD-set-same a (tapsIndex i) (p .taps) 0 (omega arith)) in
-    let hold : getD (set c (gapIndex i) (p .gap)) (holdIndex i) 0 ≡ p .hold =
-    rw (other-place c (gapIndex i) (p .gap) (holdIndex i) (λ e. omega arith)) (getD-set-same b (holdIndex i) (p .hold) 0 (omega arith)) in
-    let gap : getD (set c (gapIndex i) (p .gap)) (gapIndex i) 0 ≡ p .gap = getD-set-same c (gapIndex i) (p .gap) 0 (omega arith) in
-    let both = contacts-kept (p .local, p .slave) old in
-    let local = ap localIn contacts ∙ ap (λ (x : Bool × Bool). x .0) both in
-    let slave = ap slaveIn contacts ∙ ap (λ (x : Bool × Bool). x .1) both in
-    λ k. paddle (local k) (slave k) (hold k) (gap k) (taps k)
-
-from-back : (i : ℕ) (ps : List Paddle) (l : List ℕ) → length l ≡ byteCount → i + length ps ≤ paddleCount → paddlesFrom i (length ps) (keptFrom i ps l) ≡ ps
-unfolding paddlesFrom keptFrom
-from-back i [] l long fits = refl
-from-back i (p ∷ ps) l long fits =
-    let next = keptPaddle i p l in
-    let head = kept-below (suc i) i ps next (omega arith) (omega arith) ∙ paddle-back i p l long (omega arith) in
-    let rest = from-back (suc i) ps next (paddle-length i p l ∙ long) (omega arith) in
-    λ k. head k ∷ rest k
-
-pub paddles-back : (l : List ℕ) (ps : List Paddle) → length l ≡ byteCount → length ps ≡ paddleCount → paddlesOf (keptPaddles ps l) ≡ ps
-paddles-back l ps long all = ap (λ (n : ℕ). paddlesFrom 0 n (keptPaddles ps l)) (sym all) ∙ from-back 0 ps l long (omega arith)
-
--- How many paddles there are.
-from-count : (i n : ℕ) (l : List ℕ) → length (paddlesFrom i n l) ≡ n
-unfolding paddlesFrom
-from-count i zero l = refl
-from-count i (suc n) l = ap suc (from-count (suc i) n l)
-
-pub count : (l : List ℕ) → length (paddlesOf l) ≡ paddleCount
-count l = from-count 0 paddleCount l
-
-fresh-from : (n : ℕ) → length (freshFrom n) ≡ n
-unfolding freshFrom
-fresh-from zero = refl
-fresh-from (suc n) = ap suc (fresh-from n)
-
-pub fresh-count : length freshPaddles ≡ paddleCount
-fresh-count = fresh-from paddleCount
-
-pub pressed-count : (contact : ℕ) (ps : List Paddle) → length (pressedAt contact ps) ≡ length ps
-unfolding pressedAt
-pressed-count contact ps = length-set ps (paddleOf contact) _
-
-pub released-count : (contact : ℕ) (ps : List Paddle) → length (releasedAt contact ps) ≡ length ps
-unfolding releasedAt
-released-count contact ps = length-set ps (paddleOf contact) _
-
-pub next-count : (l : List ℕ) → length (map nextPaddle (paddlesOf l)) ≡ paddleCount
-next-count l = length-map (paddlesOf l) nextPaddle ∙ count l
-
--- One paddle of them, read and kept.
-from-at : (i n j : ℕ) (l : List ℕ) → j < n → getD (paddlesFrom i n l) j freshPaddle ≡ paddleFrom (i + j) l
-unfolding paddlesFrom
-from-at i zero j l h = absurd (omega arith)
-from-at i (suc n) zero l h = ap (λ (k : ℕ). paddleFrom k l) (omega arith)
-from-at i (suc n) (suc j) l h = from-at (suc i) n j l (omega arith) ∙ ap (λ (k : ℕ). paddleFrom k l) (omega arith)
-
-pub paddle-at : (i : ℕ) (l : List ℕ) → i < paddleCount → getD (paddlesOf l) i freshPaddle ≡ paddleFrom i l
-paddle-at i l h = from-at 0 paddleCount i l h ∙ ap (λ (k : ℕ). paddleFrom k l) (omega arith)
-
-one-from :
-    (i n j : ℕ) (p : Paddle) (l : List ℕ) → j < n → i + n ≤ paddleCount
-    → keptFrom i (set (paddlesFrom i n l) j p) l ≡ keptPaddle (i + j) p l
-unfolding keptFrom paddlesFrom
-one-from i zero j p l h fits = absurd (omega arith)
-one-from i (suc n) zero p l h fits =
-    ap (λ (ps : List Paddle). keptFrom (suc i) ps (keptPaddle i p l)) (sym (from-apart (suc i) n i p l (omega arith) (omega arith)))
-    ∙ from-same (suc i) n (keptPaddle i p l)
-    ∙ ap (λ (k : ℕ). keptPaddle k p l) (omega arith)
-one-from i (suc n) (suc j) p l h fits =
-    ap (λ (m : List ℕ). keptFrom (suc i) (set (paddlesFrom (suc i) n l) j p) m) (paddle-same i l)
-    ∙ one-from (suc i) n j p l (omega arith) (omega arith)
-    ∙ ap (λ (k : ℕ). keptPaddle k p l) (omega arith)
-
-pub one-kept : (i : ℕ) (p : Paddle) (l : List ℕ) → i < paddleCount → keptPaddles (set (paddlesOf l) i p) l ≡ keptPaddle i p l
-one-kept i p l h = one-from 0 paddleCount i p l h (omega arith) ∙ ap (λ (k : ℕ). keptPaddle k p l) (omega arith)
-
--- An edge keeps one paddle, and that is to keep all.
-pub paddle-low : (contact : ℕ) → paddleOf contact < paddleCount
-unfolding paddleOf
-paddle-low contact = omega arith
-
-pub press-kept :
-    (contact : ℕ) (l : List ℕ) (i : ℕ) (p : Paddle) (kind : Contact) (q : Paddle) (l′ : List ℕ)
-    → i ≡ paddleOf contact
-    → p ≡ paddleFrom i l
-    → kind ≡ kindOf contact
-    → q ≡ pressed kind p
-    → l′ ≡ keptPaddle i q l
-    → l′ ≡ keptPaddles (pressedAt contact (paddlesOf l)) l
-unfolding pressedAt
-press-kept contact l i p kind q l′ place read which after kept =
-    rw (paddle-at (paddleOf contact) l (paddle-low contact), one-kept (paddleOf contact) (pressed (kindOf contact) (paddleFrom (paddleOf contact) l)) l (paddle-low contact))
-    (kept ∙ rw (after, which, read, place))
-
-pub release-kept :
-    (contact : ℕ) (l : List ℕ) (i : ℕ) (p : Paddle) (kind : Contact) (t : Turn) (l′ : List ℕ)
-    → i ≡ paddleOf contact
-    → p ≡ paddleFrom i l
-    → kind ≡ kindOf contact
-    → t ≡ turn (released kind p) (gestureUp kind p)
-    → l′ ≡ keptPaddle i (t .paddle) l
-    → Lifts contact l (t .gesture) l′
-unfolding releasedAt gestureAt
-release-kept contact l i p kind t l′ place read which after kept =
-    let at = paddle-at (paddleOf contact) l (paddle-low contact) in
-    record {
-      completed = rw (at, after, which, read, place);
-      paddles =
-          rw (at, one-kept (paddleOf contact) (released (kindOf contact) (paddleFrom (paddleOf contact) l)) l (paddle-low contact))
-          (kept ∙ rw (after, which, read, place));
-    }
-
--- Contacts hold the paddle down unless their two low bits are 0.
-pub down-contacts : (contacts : ℕ) → (localIn contacts || slaveIn contacts) ≡ not (eqb (contacts % 4) 0)
-unfolding localIn slaveIn
-down-contacts contacts =
-    let local : contacts % 2 ≡ contacts % 4 % 2 = omega arith in
-    let slave : contacts / 2 % 2 ≡ contacts % 4 / 2 = omega (arith, div-div-eq-div-mul contacts 2 2) in
-    rw (local, slave) (go (contacts % 4) (omega arith))
-  where
-    go : (bits : ℕ) → bits < 4 → (eqb (bits % 2) 1 || eqb (bits / 2) 1) ≡ not (eqb bits 0)
-    go zero h = refl
-    go (suc zero) h = refl
-    go (suc (suc zero)) h = refl
-    go (suc (suc (suc zero))) h = refl
-    go (suc (suc (suc (suc n)))) h = absurd (omega arith)
-
--- Loud is 'completes a gesture'.
-pub loud-gesture : (i : ℕ) (l : List ℕ) → loudAt i l ≡ not (completesNothing (gesture (paddleFrom i l)))
-unfolding loudAt paddleFrom down ends completed closing gesture completesNothing
-loud-gesture i l =
-    let taps = getD l (tapsIndex i) 0 in
-    rw (down-contacts (getD l (contactsIndex i) 0))
-    (go taps (eqb (getD l (contactsIndex i) 0 % 4) 0) (eqb (getD l (holdIndex i) 0) 1) (leb (getD l (gapIndex i) 0) 1) (eqb taps 0))
-  where
-    go : (taps : ℕ) (up held closed none : Bool)
-        → (if up then closed && not none else held)
-        ≡ not (completesNothing (if (if not up then held else closed) then (if not up then Hold else if none then Nothing else Taps taps) else Nothing))
-    go taps true held true true = refl
-    go taps true held true false = refl
-    go taps true held false none = refl
-    go taps false true closed none = refl
-    go taps false false closed none = refl
-
-nothing : (g : Gesture) → completesNothing g ≡ true → g ≡ Nothing
-unfolding completesNothing
-nothing Nothing h = refl
-nothing (Taps n) h = absurd (true≢false (sym h))
-nothing Hold h = absurd (true≢false (sym h))
-nothing Release h = absurd (true≢false (sym h))
-
-not-true : (b : Bool) → not b ≡ true → b ≡ false
-not-true true h = absurd (true≢false (sym h))
-not-true false h = refl
-
-not-false : (b : Bool) → not b ≡ false → b ≡ true
-not-false true h = refl
-not-false false h = absurd (true≢false h)
-
-quiet-at : (i : ℕ) (l : List ℕ) → loudAt i l ≡ false → completesNothing (gesture (paddleFrom i l)) ≡ true
-quiet-at i l h = not-false _ (sym (loud-gesture i l) ∙ h)
-
--- Where the next tick is quiet no paddle has a gesture.
-quiet-from : (i n : ℕ) (l : List ℕ) → loudFrom i n l ≡ false → map gesture (paddlesFrom i n l) ≡ replicate n Nothing
-unfolding loudFrom paddlesFrom
-quiet-from i zero l h = refl
-quiet-from i (suc n) l h =
-    let still = neither (loudAt i l) (loudFrom (suc i) n l) h in
-    let head = nothing (gesture (paddleFrom i l)) (quiet-at i l (still .0)) in
-    let rest = quiet-from (suc i) n l (still .1) in
-    λ k. head k ∷ rest k
-
-pub quiet-gestures : (l : List ℕ) → quietBytes l ≡ true → map gesture (paddlesOf l) ≡ replicate paddleCount Nothing
-unfolding quietBytes
-quiet-gestures l h = quiet-from 0 paddleCount l (not-true _ h)
-
--- Such a tick leaves the taps, and is the timers' alone.
-taps-stay : (p : Paddle) → completesNothing (gesture p) ≡ true → tapsKept p ≡ p .taps
-unfolding tapsKept gesture completed closing completesNothing
-taps-stay p h = go (ends p) (down p) (eqb (p .taps) 0) refl h
-  where
-    go : (e d z : Bool) → eqb (p .taps) 0 ≡ z → completesNothing (if e then (if d then Hold else if z then Nothing else Taps (p .taps)) else Nothing) ≡ true
-        → (if e then 0 else p .taps) ≡ p .taps
-    go false d z same h = refl
-    go true true z same h = absurd (true≢false (sym h))
-    go true false true same h = sym (eqb-true (p .taps) 0 same)
-    go true false false same h = absurd (true≢false (sym h))
-
-swapped : {A : Type 0} (b : Bool) (x y : A) → (if not b then x else y) ≡ (if b then y else x)
-swapped true x y = refl
-swapped false x y = refl
-
-left-same : (i : ℕ) (l : List ℕ) → left (paddleFrom i l) ≡ leftBy (getD l (contactsIndex i) 0) (getD l (holdIndex i) 0)
-unfolding left leftBy down paddleFrom
-left-same i l = rw (down-contacts (getD l (contactsIndex i) 0)) (swapped (eqb (getD l (contactsIndex i) 0 % 4) 0) _ _)
-
-gap-same : (i : ℕ) (l : List ℕ) → paddleFrom i l .gap ≡ getD l (gapIndex i) 0
-unfolding paddleFrom
-gap-same i l = refl
-
-next-same :
-    (i : ℕ) (l : List ℕ) (hold gap : ℕ)
-    → let p = paddleFrom i l in
-    keptPaddle i (paddle (p .local) (p .slave) hold gap (p .taps)) l ≡ set (set l (holdIndex i) hold) (gapIndex i) gap
-unfolding keptPaddle keptContacts paddleFrom
-next-same i l hold gap = simp (kept-same, set-getD)
-
-ran-at : (i : ℕ) (l : List ℕ) → loudAt i l ≡ false → ranAt i l ≡ keptPaddle i (nextPaddle (paddleFrom i l)) l
-unfolding ranAt nextPaddle
-ran-at i l h =
-    let p = paddleFrom i l in
-    rw (
-      taps-stay p (quiet-at i l h),
-      next-same i l (left p) (less (p .gap)),
-      left-same i l,
-      gap-same i l,
-      other-place l (holdIndex i) (leftBy (getD l (contactsIndex i) 0) (getD l (holdIndex i) 0)) (gapIndex i) (λ e. omega arith),
-    )
-
-loud-apart : (i n j : ℕ) (p : Paddle) (l : List ℕ) → j < i → i + n ≤ paddleCount → loudFrom i n (keptPaddle j p l) ≡ loudFrom i n l
-unfolding loudFrom
-loud-apart i zero j p l low fits = refl
-loud-apart i (suc n) j p l low fits =
-    let same = paddle-apart j i p l (λ e. omega arith) (omega arith) (omega arith) in
-    let at : loudAt i (keptPaddle j p l) ≡ loudAt i l =
-    loud-gesture i (keptPaddle j p l) ∙ (ap (λ (q : Paddle). not (completesNothing (gesture q))) same ∙ sym (loud-gesture i l)) in
-    rw (at, loud-apart (suc i) n j p l (omega arith) (omega arith))
-
-ran-from :
-    (i n : ℕ) (l : List ℕ) → loudFrom i n l ≡ false → i + n ≤ paddleCount
-    → ranFrom i n l ≡ keptFrom i (map nextPaddle (paddlesFrom i n l)) l
-unfolding loudFrom ranFrom paddlesFrom keptFrom
-ran-from i zero l h fits = refl
-ran-from i (suc n) l h fits =
-    let still = neither (loudAt i l) (loudFrom (suc i) n l) h in
-    let p = nextPaddle (paddleFrom i l) in
-    ap (λ (m : List ℕ). ranFrom (suc i) n m) (ran-at i l (still .0))
-    ∙ ran-from (suc i) n (keptPaddle i p l) (loud-apart (suc i) n i p l (omega arith) (omega arith) ∙ still .1) (omega arith)
-    ∙ ap (λ (ps : List Paddle). keptFrom (suc i) (map nextPaddle ps) (keptPaddle i p l)) (from-apart (suc i) n i p l (omega arith) (omega arith))
-
-pub quiet-ran : (l : List ℕ) → quietBytes l ≡ true → ranBytes l ≡ keptPaddles (map nextPaddle (paddlesOf l)) l
-unfolding quietBytes ranBytes
-quiet-ran l h = ran-from 0 paddleCount l (not-true _ h) (omega arith)
+pub save-over :
+    (c n : List ℕ) (k : Core) (s : ℕ) → Sized c n
+    → keptSave s (keptCounters k c) ≡ keptCounters (core (k .mode) (k .dimmer) (k .lamp) s) c
+unfolding keptCounters
+save-over c n k s sized =
+    let m = k .dimmer .motion in
+    let long : length (keptCourse m c) ≡ counterCount = course-length m c ∙ sized .counted in
+    save-order (k .lamp) s (keptSave (k .save) (keptCourse m c)) (save-length (k .save) (keptCourse m c) ∙ long)
+    ∙ ap (keptTimers (k .lamp)) (save-again s (k .save) (keptCourse m c) long)

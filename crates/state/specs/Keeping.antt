@@ -2,9 +2,8 @@
 -- it has is written.
 use mathlib.Core.List.{List}
 use Prim.Native.Nat.{ℕ}
-use lib.Dec.{eqb}
 use lib.ListN.{getD, set}
-use Rattle.words.specs.Words.{if_then_else_}
+use Rattle.words.specs.Words.{keptAt}
 use Rattle.vault.specs.declared.Mode.{Mode}
 use Rattle.vault.specs.declared.Password.{Password}
 use Rattle.dimmer.specs.declared.Dimmer.{Dimmer}
@@ -16,10 +15,6 @@ use Rattle.acts.specs.declared.Core.{Core}
 use Rattle.state.specs.Kinds.{modeOf, modeNumber, colourFrom, colourNumber, motionOf, kindNumber}
 use Rattle.state.specs.State.{versionIndex, phaseIndex, blinkIndex, flashIndex, saveIndex, leftIndex, periodIndex}
 use Rattle.state.specs.State.{levelIndex, kindIndex, modeIndex, hueIndex, lastIndex, targetIndex, firstIndex, secondIndex}
-
--- A number that is kept; `plain` is the plain number of what stands at the place.
-unfoldable pub keptAt : ℕ → ℕ → ℕ → List ℕ → List ℕ
-keptAt plain new place l = set l place (if eqb plain new then getD l place 0 else new)
 
 -- The password.
 unfoldable pub keptPassword : Password → List ℕ → List ℕ

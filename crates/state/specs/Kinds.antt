@@ -1,6 +1,5 @@
--- Modes, colours, motions and contacts as numbers.
-use mathlib.Core.Bool.{Bool}
-use Prim.Native.Nat.{ℕ, _+_, _*_, _/_, _%_}
+-- Modes, colours and motions as numbers.
+use Prim.Native.Nat.{ℕ}
 use lib.Dec.{eqb}
 use Rattle.words.specs.Words.{if_then_else_}
 use Rattle.units.specs.Units.{step}
@@ -48,15 +47,3 @@ unfoldable pub kindNumber : Motion → ℕ
 kindNumber Idle = 0
 kindNumber (Fading target period left) = 1
 kindNumber (Blinking period left) = 2
-
--- Whether a paddle's contacts, as a number, have the local one down: bit 0.
-unfoldable pub localIn : ℕ → Bool
-localIn contacts = eqb (contacts % 2) 1
-
--- Whether they have the slave one down: bit 1. The bits above it say nothing.
-unfoldable pub slaveIn : ℕ → Bool
-slaveIn contacts = eqb (contacts / 2 % 2) 1
-
--- The contacts as a number.
-unfoldable pub contactsNumber : Bool → Bool → ℕ
-contactsNumber local slave = (if local then 1 else 0) + 2 * (if slave then 1 else 0)

@@ -1,5 +1,4 @@
 pub mod Kinds
 pub mod State
 pub mod Keeping
-pub mod Paddles
 pub mod Code

@@ -3,8 +3,8 @@
 ghost use mathlib.Core.Path.{_≡_};
 ghost use Prim.Native.Nat.{_<_};
 ghost use Rattle.state.specs.State.{numberCount, modeIn, levelIn, saveIn, passwordOf, dimmerOf, lampOf, coreOf};
-ghost use Rattle.state.specs.Keeping.{keptAt, keptMode, keptHue, keptKind, keptTarget, keptLevels, keptPassword, keptNumbers};
-ghost use Rattle.state.specs.Keeping.{keptCourse, keptSave, keptTimers, keptCounters};
+ghost use Rattle.words.specs.Words.{keptAt};
+ghost use Rattle.state.specs.Keeping.{keptMode, keptHue, keptKind, keptTarget, keptLevels, keptPassword, keptNumbers, keptCourse, keptSave, keptTimers, keptCounters};
 ghost use Rattle.state.specs.Code.{idleIn, leftIn, keptLeft, LampKept, DimmerKept, CoreKept};
 use crate::COUNTERS;
 use crate::NUMBERS;

@@ -1,6 +1,6 @@
-// Modes, colours, motions and contacts as numbers, and back.
+// Modes, colours and motions as numbers, and back.
 ghost use mathlib.Core.Path.{_≡_};
-ghost use Rattle.state.specs.Kinds.{modeOf, modeNumber, colourFrom, colourNumber, motionOf, kindNumber, localIn, slaveIn, contactsNumber};
+ghost use Rattle.state.specs.Kinds.{modeOf, modeNumber, colourFrom, colourNumber, motionOf, kindNumber};
 use dimmer::Motion;
 use lamp::Colour;
 use units::Step;
@@ -71,24 +71,4 @@ pub fn kind_number(motion: Motion) -> u8
         Motion::Fading { .. } => 1,
         Motion::Blinking { .. } => 2,
     }
-}
-
-// Whether the local contact is down.
-pub fn local_in(contacts: u8) -> bool
-    ensures { λ r. ⌜ r ≡ localIn contacts ⌝ }
-{
-    contacts & 1 == 1
-}
-
-// Whether the slave contact is.
-pub fn slave_in(contacts: u8) -> bool
-    ensures { λ r. ⌜ r ≡ slaveIn contacts ⌝ }
-{
-    contacts >> 1 & 1 == 1
-}
-
-pub fn contacts_number(local: bool, slave: bool) -> u8
-    ensures { λ r. ⌜ r ≡ contactsNumber local slave ⌝ }
-{
-    (local as u8) + 2 * (slave as u8)
 }

@@ -1,28 +1,22 @@
-// All that a switch holds besides its registers, as the caller keeps it: counters, numbers and the paddles' bytes, lent to every
-// event. Here they are read and kept, part by part; nothing else knows where a part stands.
+// The core of a switch and its password as the caller keeps them: counters and numbers, lent to every event. Here they are read and
+// kept, part by part; nothing else knows where a part stands.
 //
 // counters   0 version, 1 phase, 2 signal, 3 flash: the lamp's. 4 save. 5 left, 6 period: of a motion.
 // numbers    0 level, 1 kind of motion, 2 mode, 3 hue of the lamp's signal, 4 last level, 5 target of a fade, 6 and 7 the password.
-// paddles    of each paddle in order its contacts, then of each its taps, then hold, then gap.
 //
 // Motion 0: idle, 1: fading, 2: blinking. Mode 0: Normal, 1: Setup, 2: Factory. Colour 0: black, 1: red, 2: green, 3: orange.
-// A number that stands for nothing is read as the first of its list. Of contacts bit 0 says that the local one is down and bit 1
-// that the slave one is; the bits above them say nothing.
+// A number that stands for nothing is read as the first of its list.
 ghost use mathlib.Core.Path.{_≡_};
 ghost use lib.ListN.{length};
 ghost use Rattle.state.specs.Code.{Sized};
 
 pub mod core;
 pub mod kinds;
-pub mod paddles;
 
 // How many there are of each.
 pub const COUNTERS: usize = 7;
 
 pub const NUMBERS: usize = 8;
-
-// Of a paddle four bytes are kept.
-pub const BYTES: usize = 4 * model::PADDLES;
 
 // Each array has its length: an event says so once, and needs no code for it.
 pub fn sized(counters: &[u16; COUNTERS], numbers: &[u8; NUMBERS])

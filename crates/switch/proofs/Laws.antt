@@ -7,7 +7,7 @@ use native.Mathlib.Omega.{arith}
 use lib.ListN.{length}
 use borrow.Author.Tests.{lt-ltb, le-ltb, le-leb, lt-leb, ne-eqb}
 use Rattle.words.specs.Words.{if_then_else_}
-use Rattle.vault.specs.Job.{Answered, changed, became, done, nothing, outcome, settled, switch}
+use Rattle.vault.specs.Job.{Answered, changed, became, done, nothing, settled, switch}
 use Rattle.vault.specs.Product
 use Rattle.vault.specs.declared.Password.{Password}
 use Rattle.paddle.specs.declared.Paddle.{Paddle}
@@ -15,19 +15,19 @@ use Rattle.model.specs.Model.{contactCount, room}
 use Rattle.lamp.specs.declared.Colour.the-variants.{Red}
 use Rattle.acts.specs.Core.{signalled}
 use Rattle.acts.specs.declared.Core.{Core}
-use Rattle.post.specs.Post.{placed, tally}
-use Rattle.post.specs.declared.outbox.Sent.{Sent}
+use Rattle.outbox.specs.Outbox.{placed, tally}
+use Rattle.outbox.specs.declared.Sent.{Sent}
 use Rattle.state.specs.State.{coreOf, passwordOf}
-use Rattle.state.specs.Keeping.{keptCounters, keptNumbers}
-use Rattle.state.specs.Paddles.{keptPaddles, paddlesOf}
+use Rattle.panel.specs.Panel.{keptPaddles, paddlesOf}
 use Rattle.state.specs.Code.{CoreKept, Sized}
-use Rattle.state.proofs.Laws.{core-back, counters-same, numbers-same, paddles-same}
+use Rattle.state.proofs.Laws.{core-back, counters-same, numbers-same}
+use Rattle.panel.proofs.Laws.{paddles-same}
 use Rattle.turns.specs.Turns.{Moment}
-use Rattle.switch.specs.Switch.{Plain, Shown, Deed, event, plain, shown, answerWith, answerOf, press, release, switchOf}
+use Rattle.switch.specs.Switch.{Plain, Shown, Deed, event, plain, answerWith, answerOf, press, release}
 use Rattle.switch.specs.Events.{SwitchJob, refused, known, job, jobOfDeed, finished, signalledBy, jobOfPress, jobOfRelease}
 use Rattle.switch.specs.Respond.{Leaves, Responds, respond}
 use Rattle.switch.specs.Code.{signalledOn, told}
-use Rattle.switch.specs.declared.Answer.{Answer}
+use Rattle.answers.specs.declared.Answer.{Answer}
 
 -- A buffer without room is 2; where there is room, the deed asks.
 pub no-room : (p : Plain) (lent : ℕ) (deed : Deed) → lent < room → job p (event lent deed) ≡ done (refused 2 p) nothing

@@ -1,31 +1,30 @@
 -- The quick ways: an event that completes no gesture, and a tick that saves nothing besides, run their timers and do nothing else.
-use mathlib.Core.Path.{_≡_, refl, sym, ap, _∙_}
+use mathlib.Core.Path.{_≡_, refl, ap, _∙_}
 use mathlib.Core.Bool.{true}
-use mathlib.Core.List.{List, [], _∷_, map}
+use mathlib.Core.List.{List, [], map}
 use Prim.Native.Nat.{ℕ, zero, suc, _+_, _≤_, _<_}
-use native.Mathlib.Omega.{arith}
-use lib.ListN.{length, replicate}
+use lib.ListN.{replicate}
 use borrow.Author.Tests.{ne-eqb}
 use Rattle.timers.specs.Timers.{metronome}
-use Rattle.vault.specs.Job.{Answered, changed, became, settled, switch, over, followed}
+use Rattle.vault.specs.Job.{changed, became, settled, switch, over, followed}
 use Rattle.vault.specs.Product
 use Rattle.vault.specs.declared.Password.{Password}
 use Rattle.paddle.specs.Paddle.{gesture, nextPaddle}
-use Rattle.paddle.specs.declared.Gesture.{Gesture}
 use Rattle.paddle.specs.declared.Gesture.the-variants.{Nothing}
 use Rattle.paddle.specs.declared.Paddle.{Paddle}
 use Rattle.paddle.specs.Code.{completesNothing}
 use Rattle.model.specs.Model.{contactCount, paddleOf, room}
-use Rattle.registers.specs.Write.{applied, changeOf, changeAt}
+use Rattle.writes.specs.Writes.{applied, changeOf, changeAt}
 use Rattle.acts.specs.Core.{aged, saved, toSave, unwritten}
 use Rattle.acts.specs.declared.Core.{Core}
-use Rattle.state.specs.Paddles.{gestureAt, pressedAt, releasedAt}
-use Rattle.turns.specs.Turns.{Moment, after, turned, turns}
+use Rattle.panel.specs.Panel.{gestureAt, pressedAt, releasedAt}
+use Rattle.turns.specs.Turns.{Moment, after, turns}
 use Rattle.turns.specs.Code.{turnsBy}
 use Rattle.turns.proofs.Laws.{nothing-done, turned-nothing, turns-by}
-use Rattle.switch.specs.Switch.{Plain, Shown, plain, press, release, tick, event}
+use Rattle.moves.specs.Code.{passedCore}
+use Rattle.switch.specs.Switch.{plain, press, release, tick, event}
 use Rattle.switch.specs.Events.{begun, jobOfDeed, finished, jobOfPress, jobOfRelease, signalledBy, jobOfTick}
-use Rattle.switch.specs.Code.{passedCore, told}
+use Rattle.switch.specs.Code.{told}
 use Rattle.switch.specs.Respond.{respond}
 use Rattle.switch.proofs.Laws.{enough-room, is-known}
 

@@ -10,31 +10,31 @@ use Rattle.vault.specs.Job.{Job, Outcome, compare, done, nothing, outcome, reve
 use Rattle.vault.specs.Vault.{inSetup}
 use Rattle.vault.specs.declared.Password.{Password}
 use Rattle.lamp.specs.declared.Colour.{Colour}
-use Rattle.lamp.specs.declared.Colour.the-variants.{Black, Red, Green}
+use Rattle.lamp.specs.declared.Colour.the-variants.{Black, Red}
 use Rattle.packet.specs.Reading.{readOf, numberOfFrame, messageOf}
 use Rattle.packet.specs.declared.Frame.{Frame}
 use Rattle.packet.specs.declared.Frame.the-variants as frame
 use Rattle.paddle.specs.Paddle.{nextPaddle}
 use Rattle.paddle.specs.declared.Paddle.{Paddle}
 use Rattle.model.specs.Model.{contactCount, room, paddleOf}
-use Rattle.registers.specs.Write.{applied, changeOf}
+use Rattle.writes.specs.Writes.{applied, changeOf}
 use Rattle.registers.specs.declared.Seen.{Seen}
 use Rattle.registers.specs.declared.Seen.the-variants as seen
-use Rattle.registers.specs.declared.places.Counter.the-variants.{Restarts}
-use Rattle.registers.specs.declared.write.Write.the-variants.{Count}
+use Rattle.places.specs.declared.Counter.the-variants.{Restarts}
+use Rattle.writes.specs.declared.Write.the-variants.{Count}
 use Rattle.judge.specs.Judge.{judged}
 use Rattle.judge.specs.declared.Order.{Order}
 use Rattle.judge.specs.declared.Order.the-variants as order
 use Rattle.judge.specs.declared.Work.{Work}
 use Rattle.judge.specs.declared.Work.the-variants as work
 use Rattle.acts.specs.Core.{core, unwritten, started, aged, saved, opened, signalled}
-use Rattle.acts.specs.Orders.{performed}
+use Rattle.orders.specs.Orders.{performed}
 use Rattle.acts.specs.declared.Core.{Core}
 use Rattle.acts.specs.declared.Effect.{Effect}
 use Rattle.post.specs.Post.{replied}
 use Rattle.post.specs.declared.Reply.{Reply}
 use Rattle.post.specs.declared.Reply.the-variants as reply
-use Rattle.state.specs.Paddles.{pressedAt, releasedAt, gestureAt, freshPaddles}
+use Rattle.panel.specs.Panel.{pressedAt, releasedAt, gestureAt, freshPaddles}
 use Rattle.switch.specs.Switch.{Plain, plain, Deed, press, release, tick, receive, restart, Event, Shown, shown}
 use Rattle.turns.specs.Turns.{Moment, moment, after, turned, turns}
 use Rattle.obey.specs.Obey.{replyTo, hueOf}

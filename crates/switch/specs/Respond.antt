@@ -12,16 +12,16 @@ use Rattle.vault.specs.Product
 use Rattle.vault.specs.declared.Mode.the-variants.{Normal}
 use Rattle.units.specs.Units.{off}
 use Rattle.lamp.specs.declared.Colour.the-variants.{Black}
-use Rattle.post.specs.Post.{placed, tally}
-use Rattle.registers.specs.Places.{size}
+use Rattle.outbox.specs.Outbox.{placed, tally}
+use Rattle.places.specs.Places.{size}
 use Rattle.registers.specs.Registers.{apart, numberTaken, passwordIn}
 use Rattle.registers.specs.declared.Taken.the-variants.{Refused}
 use Rattle.state.specs.State.{counterCount, numberCount}
 use Rattle.state.specs.Keeping.{keptCounters, keptNumbers}
-use Rattle.state.specs.Paddles.{byteCount, keptPaddles}
+use Rattle.panel.specs.Panel.{byteCount, keptPaddles}
 use Rattle.switch.specs.Switch.{Plain, Shown, Event, Deed, event, switchOf, answerOf}
 use Rattle.switch.specs.Events.{job, woken}
-use Rattle.switch.specs.declared.Answer.{Answer}
+use Rattle.answers.specs.declared.Answer.{Answer}
 
 -- The wall switch as a product of the vault: its theory of secrecy speaks of this.
 abbrev pub wallSwitch : Product

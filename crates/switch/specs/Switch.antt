@@ -1,17 +1,17 @@
 -- What a switch holds, what happens to it, and what it answers (01, Events and time).
-use mathlib.Core.List.{List, [], _∷_}
+use mathlib.Core.List.{List}
 use Prim.Native.Nat.{ℕ}
 use Rattle.lamp.specs.Lamp.{colour, output}
 use Rattle.paddle.specs.declared.Paddle.{Paddle}
-use Rattle.registers.specs.Places.{digitIn, lightIn}
+use Rattle.places.specs.Places.{digitIn, lightIn}
 use Rattle.vault.specs.Job.{Switch, switch}
 use Rattle.acts.specs.declared.Core.{Core}
-use Rattle.post.specs.Post.{tally}
-use Rattle.post.specs.declared.outbox.Sent.{Sent}
+use Rattle.outbox.specs.Outbox.{tally}
+use Rattle.outbox.specs.declared.Sent.{Sent}
 use Rattle.state.specs.State.{coreOf, passwordOf}
 use Rattle.state.specs.Keeping.{keptCounters, keptNumbers}
-use Rattle.state.specs.Paddles.{keptPaddles, paddlesOf}
-use Rattle.switch.specs.declared.Answer.{Answer}
+use Rattle.panel.specs.Panel.{keptPaddles, paddlesOf}
+use Rattle.answers.specs.declared.Answer.{Answer}
 
 -- All that a switch holds but its password: the registers, the core, and the paddles by their number.
 pub record Plain : Type 0 where

@@ -1,11 +1,10 @@
 -- The gestures one after the other, as the code goes through them: each begins anew with nothing sent and nothing changed.
 use mathlib.Core.Path.{_≡_, refl, sym, ap, subst, _∙_}
-use mathlib.Core.Bool.{Bool, true, false, true≢false}
+use mathlib.Core.Bool.{true, false, true≢false}
 use mathlib.Core.List.{List, [], _∷_, _++_, map, append-assoc, append-nil}
-use Prim.Native.Nat.{ℕ, zero, suc, _+_, _≤_, _<_}
+use Prim.Native.Nat.{ℕ, suc, _+_, _≤_, _<_}
 use native.Mathlib.Numerals.{add-one}
-use native.Mathlib.Omega.{arith}
-use lib.ListN.{length, getD, drop, length-map, drop-of-length-le}
+use lib.ListN.{length, getD, drop, drop-of-length-le}
 use lib.Seq.{drop-cons}
 use Rattle.words.proofs.Laws.{both, one-outcome}
 use Rattle.units.specs.Units.{percentOf}
@@ -20,20 +19,23 @@ use Rattle.paddle.specs.declared.Gesture.the-variants.{Nothing, Taps, Hold, Rel
 use Rattle.paddle.specs.declared.Paddle.{Paddle}
 use Rattle.paddle.specs.Code.{completesNothing}
 use Rattle.model.specs.Model.{paddleCount}
-use Rattle.registers.specs.Places.{transmitIn}
+use Rattle.places.specs.Places.{transmitIn}
 use Rattle.registers.specs.Registers.{valid}
-use Rattle.registers.specs.Write.{applied, changeOf, changeAt}
+use Rattle.writes.specs.Writes.{applied, changeOf, changeAt}
 use Rattle.acts.specs.Core.{unwritten}
-use Rattle.acts.specs.Gestures.{acted}
+use Rattle.gestures.specs.Gestures.{acted}
 use Rattle.acts.specs.declared.Core.{Core}
 use Rattle.acts.specs.declared.Effect.{Effect}
-use Rattle.acts.proofs.Laws.{nothing-acts}
-use Rattle.post.specs.Post.{announced, bytesOf, chosen, commandNumber, enveloped, gestureMessage, gestureNumber}
+use Rattle.gestures.proofs.Laws.{nothing-acts}
+use Rattle.herald.specs.Herald.{announced, chosen, commandNumber, gestureMessage, gestureNumber}
+use Rattle.post.specs.Post.{bytesOf, enveloped}
 use Rattle.post.specs.declared.Note.{Note}
-use Rattle.post.specs.declared.outbox.Outbox.{Outbox}
-use Rattle.post.specs.Code.{boxed, front, noteOf, packetsIn, sentOf}
-use Rattle.post.proofs.Laws.{note-sent}
-use Rattle.post.proofs.Laying.{Holds, holds-none, holds-more}
+use Rattle.outbox.specs.declared.Outbox.{Outbox}
+use Rattle.outbox.specs.Code.{boxed, packetsIn}
+use Rattle.post.specs.Code.{front, sentOf}
+use Rattle.herald.specs.Code.{noteOf}
+use Rattle.herald.proofs.Announcing.{note-sent}
+use Rattle.outbox.proofs.Laying.{Holds, holds-more}
 use Rattle.turns.specs.Turns.{Moment, moment, after, turned, turns}
 use Rattle.turns.specs.Code.{turnsBy, Stands, Turned, TakesTurn}
 use Rattle.turns.specs.declared.After.{After}
@@ -261,10 +263,6 @@ pub turns-by : (i : ℕ) (ps : List Paddle) (m : Moment) → turns i ps m ≡ tu
 unfolding turns turnsBy
 turns-by i [] m = refl
 turns-by i (p ∷ ps) m = turns-by (i + 1) ps (turned i (gesture p) m)
-
--- As many as there are after each was turned into another.
-pub length-of-mapped : (X Y : Type 0) (f : X → Y) (l : List X) (n : ℕ) → length (map f l) ≡ n → length l ≡ n
-length-of-mapped X Y f l n e = sym (length-map l f) ∙ e
 
 -- No two outcomes: the moment fixes core, registers, packets and password.
 pub one-stand :

@@ -7,7 +7,9 @@ use Rattle.vault.specs.declared.Password.{Password}
 use Rattle.paddle.specs.declared.Gesture.{Gesture}
 use Rattle.units.specs.Units.{percentOf}
 use Rattle.acts.specs.declared.Core.{Core}
-use Rattle.post.specs.Code.{noteOf, sentOf, boxed}
+use Rattle.herald.specs.Code.{noteOf}
+use Rattle.post.specs.Code.{sentOf}
+use Rattle.outbox.specs.Code.{boxed}
 use Rattle.turns.specs.Turns.{Moment, moment, turned}
 use Rattle.turns.specs.declared.After.{After}
 use Rattle.turns.specs.declared.AfterAll.{AfterAll}

@@ -6,11 +6,11 @@ use Rattle.vault.specs.Job.{Change, change, followed}
 use Rattle.paddle.specs.Paddle.{gesture}
 use Rattle.paddle.specs.declared.Gesture.{Gesture}
 use Rattle.paddle.specs.declared.Paddle.{Paddle}
-use Rattle.registers.specs.Write.{applied, changeOf}
-use Rattle.acts.specs.Gestures.{acted}
+use Rattle.writes.specs.Writes.{applied, changeOf}
+use Rattle.gestures.specs.Gestures.{acted}
 use Rattle.acts.specs.declared.Core.{Core}
 use Rattle.acts.specs.declared.Effect.{Effect}
-use Rattle.post.specs.Post.{announced}
+use Rattle.herald.specs.Herald.{announced}
 
 -- The switch in the middle of an event: registers and core as they now stand, what was sent so far, and what became of the password.
 pub record Moment : Type 0 where

@@ -1,15 +1,14 @@
 // What the paddles' gestures do within one event: each acts on what the one before it has left, and notes what it sends.
 ghost use mathlib.Core.List.{[]};
 ghost use Rattle.vault.specs.Job.{nothing};
-ghost use Rattle.post.specs.Code.{packetsIn};
+ghost use Rattle.outbox.specs.Code.{packetsIn};
 ghost use Rattle.turns.specs.Turns.{moment};
 ghost use Rattle.turns.specs.Code.{turnsBy, Stands, TakesTurn, Turned};
 use acts::Core;
 use model::PADDLES;
+use outbox::Outbox;
 use paddle::Gesture;
 use post::Note;
-use post::outbox::Outbox;
-use registers::write;
 use vault::Password;
 
 // What a gesture leaves: the core and the password after it, and the note of what it sends.
@@ -78,15 +77,15 @@ fn turned(
     ensures { λ r. ⌜ Turned paddle gesture core password (now (all .entry)) r (now (all .exit)) ⌝ }
 {
     let mode = core.mode;
-    let effect = acts::gestures::act(core, all, paddle, gesture);
+    let effect = gestures::act(core, all, paddle, gesture);
     let next = effect.core;
     let write = effect.write;
-    write::apply(write, b"", all);
+    writes::apply(write, b"", all);
     let dimmer = next.dimmer;
     let percent = dimmer.level.percent();
     After {
         core: next,
-        password: write::password(write, b"", password),
-        note: post::announce(all, mode, paddle, gesture, percent),
+        password: writes::password(write, b"", password),
+        note: herald::announce(all, mode, paddle, gesture, percent),
     }
 }

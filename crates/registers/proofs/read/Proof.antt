@@ -6,9 +6,10 @@ use native.Mathlib.Omega.{arith}
 use lib.ListN.{length, take, length-set}
 use lib.Seq.{take-all}
 use borrow.Author.Needs.{needs}
+use Rattle.places.proofs.Laws.{plain}
 use Rattle.registers.specs.Registers.{rangeOf}
 use Rattle.registers.specs.declared.Seen.{Seen}
-use Rattle.registers.proofs.Laws.{plain, range-more, read-plain}
+use Rattle.registers.proofs.Laws.{range-more, read-plain}
 use Rattle.registers.proofs.read.Statement.{statement}
 use Rattle.registers.proofs.read.Tie as tie
 

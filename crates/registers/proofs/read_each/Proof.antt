@@ -1,14 +1,12 @@
 use mathlib.Core.Path.{_≡_, refl, sym, ap, _∙_}
-use mathlib.Core.List.{List, [], _∷_, _++_, append-assoc, append-nil}
-use Prim.Native.Nat.{ℕ, suc, _≤_, _<_, _+_, _-_}
+use mathlib.Core.List.{_++_, append-nil}
+use Prim.Native.Nat.{ℕ, suc, _≤_, _+_, _-_}
 use native.Mathlib.Nat.{add-zero}
-use native.Mathlib.Numerals.{add-one}
 use native.Mathlib.Omega.{arith}
-use lib.ListN.{length, take, set, length-set}
-use lib.Seq.{take-all, take-suc-set}
+use lib.ListN.{length, take, length-set}
+use lib.Seq.{take-all}
 use borrow.Author.Needs.{needs}
 use Rattle.registers.specs.Registers.{masked, rangeOf, readAt}
-use Rattle.registers.specs.declared.Seen.{Seen}
 use Rattle.registers.proofs.Laws.{range-more}
 use Rattle.registers.proofs.read_each.Statement.{statement}
 use Rattle.registers.proofs.read_each.Tie as tie

@@ -7,10 +7,11 @@ use lib.ListN.{length}
 use borrow.Author.Needs.{needs}
 use Rattle.vault.specs.Job.{nothing}
 use Rattle.model.specs.Model.{paddleCount}
-use Rattle.post.proofs.Laying.{holds-none}
+use Rattle.outbox.proofs.Laying.{holds-none}
 use Rattle.turns.specs.Turns.{moment}
 use Rattle.turns.specs.Code.{turnsBy}
-use Rattle.turns.proofs.Laws.{length-of-mapped, Turning, turning-begins, turning-again, turning-ends}
+use Rattle.words.proofs.Laws.{length-of-mapped}
+use Rattle.turns.proofs.Laws.{Turning, turning-begins, turning-again, turning-ends}
 use Rattle.turns.proofs.turns.Statement.{statement}
 use Rattle.turns.proofs.turns.Tie as tie
 

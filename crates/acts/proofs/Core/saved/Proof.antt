@@ -7,12 +7,12 @@ use Rattle.acts.proofs.Core.saved.Tie as tie
 to-save-requires : tie.Need-to-save-requires
 to-save-requires c κs = search needs
 
-turn-requires : tie.Need-turn-requires
-turn-requires c κs = search needs
+next-save-requires : tie.Need-next-save-requires
+next-save-requires c κs = search needs
 
 returns : tie.Need-returns
 unfolding saved
-returns c = search (tests, c .turn .ensures, c .before .to-save .ensures)
+returns c = search (tests, c .next-save .ensures, c .before .to-save .ensures)
 
 pub saved-spec : {M : Type 1} → statement M
-saved-spec = tie.close (tie.spec to-save-requires turn-requires returns)
+saved-spec = tie.close (tie.spec to-save-requires next-save-requires returns)

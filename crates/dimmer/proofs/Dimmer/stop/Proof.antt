@@ -1,5 +1,6 @@
 use borrow.Author.Needs.{needs}
 use Rattle.dimmer.specs.Dimmer.{stopped, stoppedFrom}
+use Rattle.dimmer.proofs.Laws.{rests}
 use Rattle.dimmer.proofs.Dimmer.stop.Statement.{statement}
 use Rattle.dimmer.proofs.Dimmer.stop.Tie as tie
 
@@ -19,8 +20,7 @@ remembered-requires-2 : tie.Need-remembered-requires-2
 remembered-requires-2 c κs = search needs
 
 returns : tie.Need-returns
-unfolding stopped stoppedFrom
-returns c = cc
+returns c = rests _ (c .enum-told .given .1)
 
 returns-2 : tie.Need-returns-2
 unfolding stopped stoppedFrom

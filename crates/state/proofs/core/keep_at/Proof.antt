@@ -1,7 +1,7 @@
 use mathlib.Core.Path.{sym}
 use borrow.Author.Tests.{eq-eqb, ne-eqb}
 use lib.Seq.{set-getD}
-use Rattle.state.specs.Keeping.{keptAt}
+use Rattle.words.specs.Words.{keptAt}
 use borrow.Author.Needs.{needs}
 use Rattle.state.proofs.core.keep_at.Statement.{statement}
 use Rattle.state.proofs.core.keep_at.Tie as tie

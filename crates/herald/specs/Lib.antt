@@ -1,0 +1,3 @@
+pub mod Herald
+pub mod Promises
+pub mod Code

@@ -1,0 +1,4 @@
+pub mod Bytes
+pub mod Factory
+pub mod Order
+pub mod Writing
