@@ -1,11 +1,13 @@
--- The timers of the lamp's blinks (01, Lamp, start, factory values, 1 to 3) and the flash of the output (01, Paddles, 10).
-use Rattle.std.specs.Prelude.{ℕ, eqb}
+-- The lamp's colours and blinks (01, Lamp, start, factory values, 1 to 4) and the flash of the output (01, Paddles, 10).
+use Rattle.std.specs.Prelude.{Bool, ℕ, ◌/◌, ◌%◌, ◌^◌, ltb, leb, eqb}
 use Rattle.words.specs.Words.{if◌then◌else◌}
 use Rattle.timers.specs.Timers.{less, metronome}
 use Rattle.units.specs.Units.{full, off}
 use Rattle.units.specs.declared.Step.{Step}
+use Rattle.vault.specs.declared.Mode.{Mode}
+use Rattle.vault.specs.declared.Mode.TheVariants.{Normal, Setup, Factory}
 use Rattle.lamp.specs.declared.Colour.{Colour}
-use Rattle.lamp.specs.declared.Colour.TheVariants.{Black}
+use Rattle.lamp.specs.declared.Colour.TheVariants.{Black, Red, Green, Orange}
 use Rattle.lamp.specs.declared.Lamp.{Lamp}
 
 -- 01, Lamp, start, factory values, 1 (version): four blinks of `turnTicks` each.
@@ -15,6 +17,10 @@ versionTicks = 480
 -- 01, Lamp, start, factory values, 1 (version, mode): one blink, its colour and its black.
 abbrev pub turnTicks : ℕ
 turnTicks = 120
+
+-- 01, Lamp, start, factory values, 1 (version, mode): the colour alone, and the black alone.
+abbrev pub halfTicks : ℕ
+halfTicks = 60
 
 -- 01, Lamp, start, factory values, 1 (diagnostic): the signal, the short blink after a packet.
 abbrev pub signalTicks : ℕ
@@ -48,6 +54,52 @@ entered l = lamp l.version (less turnTicks) l.blink l.hue flashTicks
 -- The lamp one tick later: each timer runs, seen or not.
 unfoldable pub nextLamp : Lamp → Lamp
 nextLamp l = lamp (less l.version) (metronome turnTicks l.phase) (less l.blink) l.hue (less l.flash)
+
+-- One blink: its colour and then black, by the ticks that are left of it after this one.
+unfoldable pub byHalves : Colour → ℕ → Colour
+byHalves hue left = if leb halfTicks left then hue else Black
+
+-- A bit of the version digit, which has the four bits 0 to 3.
+unfoldable pub bit_of : ℕ → ℕ → ℕ
+bit_of digit number = if ltb 3 number then 0 else digit / 2 ^ number % 2
+
+-- 01, Lamp, start, factory values, 1 (version): the colour of a bit.
+unfoldable pub bitColour : ℕ → Colour
+bitColour one = if eqb one 1 then Green else Red
+
+-- 01, Lamp, start, factory values, 1 (version): bit 3 shows first and bit 0 last, by the ticks that are left of the four blinks after this one.
+unfoldable pub versionColour : ℕ → ℕ → Colour
+versionColour digit left = byHalves (bitColour (bit_of digit (left / turnTicks))) (left % turnTicks)
+
+-- 01, Lamp, start, factory values, 1 (diagnostic): bit 7 of the options chooses this rule.
+unfoldable pub diagnostic : ℕ → Bool
+diagnostic options = eqb (options / 128 % 2) 1
+
+-- 01, Lamp, start, factory values, 1 (diagnostic): the colour of a signal that runs, else orange.
+unfoldable pub diagnosed : Lamp → Colour
+diagnosed l = if eqb l.blink 0 then Orange else l.hue
+
+-- 01, Lamp, start, factory values, 1 (level): the colour that two bits name.
+unfoldable pub colourOfBits : ℕ → Colour
+colourOfBits code = if eqb code 0 then Black else if eqb code 1 then Red else if eqb code 2 then Green else Orange
+
+-- 01, Lamp, start, factory values, 1 (level): the lowest two bits of the options are for off, the next two for on.
+unfoldable pub byLevel : ℕ → Step → Colour
+byLevel options level = if eqb level.0 0 then colourOfBits (options % 4) else colourOfBits (options / 4 % 4)
+
+-- 01, Lamp, start, factory values, 1 (diagnostic, level) and 4: what shows in Normal.
+unfoldable pub normalColour : Lamp → ℕ → Step → Colour
+normalColour l options level = if diagnostic options then diagnosed l else byLevel options level
+
+-- 01, Lamp, start, factory values, 1 (mode): Setup blinks green, Factory Default red.
+unfoldable pub modeColour : Mode → Lamp → ℕ → Step → Colour
+modeColour Setup l options level = byHalves Green l.phase
+modeColour Factory l options level = byHalves Red l.phase
+modeColour Normal l options level = normalColour l options level
+
+-- 01, Lamp, start, factory values, 1: the version blinks go before all, then the mode decides.
+unfoldable pub colour : Lamp → Mode → ℕ → ℕ → Step → Colour
+colour l mode digit options level = if ltb 0 l.version then versionColour digit (less l.version) else modeColour mode l options level
 
 -- 01, Paddles, 10: a lit load turned off, a dark one turned full.
 unfoldable pub inverted : Step → Step

@@ -1,13 +1,17 @@
-// The timers behind the lamp in the paddle and the flash of the output. What colour the lamp has is in colours.
+// The lamp in the paddle and the flash of the output: what shows, by the timers that run, the mode and the level.
 ghost use Rattle.std.specs.Prelude.{◌≡◌};
-ghost use Rattle.lamp.specs.Lamp.{freshLamp, signalSet, entered, nextLamp, output, inverted};
+ghost use Rattle.lamp.specs.Lamp.{freshLamp, signalSet, entered, nextLamp, colour, output};
+ghost use Rattle.lamp.specs.Lamp.{modeColour, versionColour, bit_of, bitColour, byHalves, normalColour, diagnostic, diagnosed, byLevel, colourOfBits, inverted};
 
 use units::Step;
+use vault::Mode;
 
 // Ticks of the four version blinks.
 const VERSION: u16 = 480;
-// Ticks of one blink, its black included.
-pub const TURN: u16 = 120;
+// Ticks of one blink, its black included; the colour shows while HALF of them or more are left after this one.
+const TURN: u16 = 120;
+
+const HALF: u16 = 60;
 // Ticks of the signal, and of the flash after a mode change.
 const BLINK: u16 = 30;
 
@@ -78,6 +82,17 @@ impl Lamp {
         self
     }
 
+    // `digit`: the low four bits of register 0x0B. `options`: register 0x8B.
+    pub fn colour(self, mode: Mode, digit: u8, options: u8, level: Step) -> Colour
+        ensures { result ≡ colour self mode digit options level }
+    {
+        let version = self.version;
+        if 0 < version {
+            return version_colour(digit, version - 1);
+        }
+        self.mode_colour(mode, options, level)
+    }
+
     // The step that the output shows.
     pub fn output(self, level: Step) -> Step
         ensures { result ≡ output self level }
@@ -86,6 +101,100 @@ impl Lamp {
             return level;
         }
         inverted(level)
+    }
+
+    fn mode_colour(self, mode: Mode, options: u8, level: Step) -> Colour
+        ensures { result ≡ modeColour mode self options level }
+    {
+        match mode {
+            Mode::Setup => blinking(Colour::Green, self.phase),
+            Mode::Factory => blinking(Colour::Red, self.phase),
+            Mode::Normal => self.normal_colour(options, level),
+        }
+    }
+
+    fn normal_colour(self, options: u8, level: Step) -> Colour
+        ensures { result ≡ normalColour self options level }
+    {
+        if diagnostic(options) {
+            return self.diagnosed();
+        }
+        by_level(options, level)
+    }
+
+    // A signal that runs, else orange.
+    fn diagnosed(self) -> Colour
+        ensures { result ≡ diagnosed self }
+    {
+        if self.blink == 0 {
+            return Colour::Orange;
+        }
+        let hue = self.hue;
+        hue
+    }
+}
+
+// The version blinks with `left` ticks to come after this one, high bit first.
+fn version_colour(digit: u8, left: u16) -> Colour
+    ensures { result ≡ versionColour digit left }
+{
+    let number = left / TURN;
+    blinking(bit_colour(bit(digit, number)), left % TURN)
+}
+
+// The version digit has the four bits 0 to 3.
+fn bit(digit: u8, number: u16) -> u8
+    ensures { result ≡ bit_of digit number }
+{
+    if 3 < number {
+        return 0;
+    }
+    (digit >> number) & 1
+}
+
+fn bit_colour(one: u8) -> Colour
+    ensures { result ≡ bitColour one }
+{
+    if one == 1 {
+        return Colour::Green;
+    }
+    Colour::Red
+}
+
+// The colour and then black, by the ticks that are left of the blink after this one.
+fn blinking(hue: Colour, phase: u16) -> Colour
+    ensures { result ≡ byHalves hue phase }
+{
+    if HALF <= phase {
+        return hue;
+    }
+    Colour::Black
+}
+
+fn diagnostic(options: u8) -> bool
+    ensures { result ≡ diagnostic options }
+{
+    (options >> 7) & 1 == 1
+}
+
+// The lowest two bits are for off, the next two for on.
+fn by_level(options: u8, level: Step) -> Colour
+    ensures { result ≡ byLevel options level }
+{
+    if level.0 == 0 {
+        return colour_of(options & 3);
+    }
+    colour_of((options >> 2) & 3)
+}
+
+fn colour_of(code: u8) -> Colour
+    ensures { result ≡ colourOfBits code }
+{
+    match code {
+        0 => Colour::Black,
+        1 => Colour::Red,
+        2 => Colour::Green,
+        _ => Colour::Orange,
     }
 }
 

@@ -1,6 +1,9 @@
 -- A tick in place, over what its callees promise.
-use Rattle.core.specs.Prelude.{◌≡◌, ℕ, Bool, true, false, eqb, List, []}
+use Rattle.core.specs.Prelude.{◌≡◌, ℕ, suc, ◌+◌, ◌<◌, ◌≤◌, Bool, true, false, eqb, List, [], length, get_or, drop}
 use mathlib.Core.Path.{refl, sym, ap, subst, ◌∙◌}
+use native.Mathlib.Numerals.{add-one}
+use lib.ListN.{drop_of_length-le}
+use lib.Seq.{drop-cons}
 use borrow.Author.Tests.{eq-eqb, ne_eqb}
 use Rattle.words.proofs.Laws.{both}
 use Rattle.timers.specs.Timers.{less, metronome}
@@ -15,7 +18,8 @@ use Rattle.vault.specs.declared.Mode.TheVariants.{Normal, Setup, Factory}
 use Rattle.vault.specs.declared.Password.{Password}
 use Rattle.dimmer.specs.Dimmer.{ticked}
 use Rattle.dimmer.specs.declared.Dimmer.{Dimmer}
-use Rattle.paddle.specs.declared.Gesture.TheVariants.{Taps}
+use Rattle.paddle.specs.declared.Gesture.{Gesture}
+use Rattle.paddle.specs.declared.Gesture.TheVariants.{Nothing, Taps}
 use Rattle.writes.specs.Writes.{applied, changeAt, changeOf}
 use Rattle.writes.specs.declared.Write.{Write}
 use Rattle.writes.specs.declared.Write.TheVariants.{Save, Nothing as Unwritten, Factory as FactoryValues}
@@ -27,7 +31,9 @@ use Rattle.state.specs.Keeping.{keptCounters, keptMode, keptNumbers, keptPasswor
 use Rattle.state.specs.Code.{CoreKept, DimmerKept, Sized, idleIn, keptLeft, leftIn}
 use Rattle.state.proofs.Laws.{core-back, lamp-of-course, lamp-of-levels, password-of-levels, password-of-mode, password-same, save-of-course}
 use Rattle.state.proofs.Laws.{save-over, shift-keeps, tick-between, tick-idle, tick-keeps}
-use Rattle.moves.specs.Code.{Moves, Saves, Shifts, Writes, passedCore, shifted}
+use Rattle.moves.specs.Code.{Moves, Saves, Shifts, Writes, alongside, lone, passedCore, shifted, tapsOf, with}
+use Rattle.moves.specs.declared.shift.Alone.{Alone}
+use Rattle.moves.specs.declared.shift.Alone.TheVariants.{Nobody}
 
 -- The dimmer of a quick tick by its three ways: nothing moves, a beat, between two beats.
 pub moves_not : (c n : List ℕ) (still : Bool) → still ≡ idleIn n → still ≡ true → Moves c n c n
@@ -151,3 +157,19 @@ pub writes-none : (taps : ℕ) (n all : List ℕ) → (taps ≡ 10 → ⊥) → 
 unfolding writes applied changeOf changeAt
 writes-none taps n all other =
     record { numbered = rw (ne_eqb taps 10 other) (sym (keeps-password Unwritten n refl)); registers = rw (ne_eqb taps 10 other) }
+
+-- The loop over the gestures: what is left goes beside what there is.
+pub beside-next :
+    (gs : List Gesture) (i : ℕ) (a b : Alone) (all : Alone) → i < length gs → b ≡ with a (get_or gs i Nothing)
+    → alongside a (drop i gs) ≡ all → alongside b (drop (i + 1) gs) ≡ all
+unfolding alongside
+beside-next gs i a b all low more h =
+    ap (λ (k : ℕ). alongside b (drop k gs)) (add-one i)
+    ∙ ap (λ (x : Alone). alongside x (drop (suc i) gs)) more
+    ∙ ap (alongside a) (sym (drop-cons gs i Nothing low))
+    ∙ h
+
+pub beside-ends : (gs : List Gesture) (i : ℕ) (a : Alone) (taps : ℕ) → length gs ≤ i → alongside a (drop i gs) ≡ alongside Nobody gs → taps ≡ tapsOf a → taps ≡ lone gs
+unfolding alongside lone
+beside-ends gs i a taps over h told =
+    told ∙ ap tapsOf (sym (ap (alongside a) (drop_of_length-le gs over)) ∙ h)

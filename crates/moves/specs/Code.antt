@@ -1,11 +1,13 @@
 -- What the code and the proofs are cut by: no promise under the roof needs a definition of this file.
-use Rattle.core.specs.Prelude.{◌≡◌, ℕ, List, []}
+use Rattle.core.specs.Prelude.{◌≡◌, ℕ, Bool, ◌||◌, List, [], ◌∷◌, ◌==◌}
 use Rattle.timers.specs.Timers.{less}
 use Rattle.lamp.specs.Lamp.{nextLamp}
 use Rattle.vault.specs.Job.{changed}
 use Rattle.vault.specs.declared.Mode.{Mode}
+use Rattle.vault.specs.declared.Mode.TheVariants.{Normal, Setup, Factory}
 use Rattle.dimmer.specs.Dimmer.{ticked}
-use Rattle.paddle.specs.declared.Gesture.TheVariants.{Taps}
+use Rattle.paddle.specs.declared.Gesture.{Gesture}
+use Rattle.paddle.specs.declared.Gesture.TheVariants.{Nothing, Taps, Hold, Release}
 use Rattle.writes.specs.Writes.{applied, changeOf}
 use Rattle.acts.specs.Core.{aged, core, entering, saved}
 use Rattle.gestures.specs.Gestures.{leads, writes}
@@ -13,6 +15,8 @@ use Rattle.acts.specs.declared.Core.{Core}
 use Rattle.state.specs.State.{core_of, dimmerOf, passwordOf}
 use Rattle.state.specs.Keeping.{keptCourse, keptLevels, keptPassword, keptSave}
 use Rattle.state.specs.Code.{CoreKept}
+use Rattle.moves.specs.declared.shift.Alone.{Alone}
+use Rattle.moves.specs.declared.shift.Alone.TheVariants.{Nobody, One, More}
 
 -- The core after a tick that completes no gesture and saves nothing.
 unfoldable pub passedCore : Core → Core
@@ -27,6 +31,40 @@ pub record Moves (counters numbers counters' numbers' : List ℕ) : Type 0 where
 pub record Saves (counters numbers all counters' all' : List ℕ) : Type 0 where
   pub counted : counters' ≡ keptSave (saved (core_of counters numbers)).core.save counters
   pub registers : all' ≡ applied (saved (core_of counters numbers)).write [] all
+
+-- A run of taps beside what the paddles before it complete.
+unfoldable pub oneMore : Alone → ℕ → Alone
+oneMore Nobody taps = One taps
+oneMore (One n) taps = More
+oneMore More taps = More
+
+-- A gesture beside them.
+unfoldable pub with : Alone → Gesture → Alone
+with a Nothing = a
+with a (Taps taps) = oneMore a taps
+with a Hold = More
+with a Release = More
+
+-- All of a tick beside them.
+unfoldable pub alongside : Alone → List Gesture → Alone
+alongside a [] = a
+alongside a (g ∷ gs) = alongside (with a g) gs
+
+-- The taps of a run that is alone.
+unfoldable pub tapsOf : Alone → ℕ
+tapsOf Nobody = 0
+tapsOf (One taps) = taps
+tapsOf More = 0
+
+-- Those of a tick that completes one run of taps and nothing else.
+unfoldable pub lone : List Gesture → ℕ
+lone gs = tapsOf (alongside Nobody gs)
+
+-- These taps move the mode.
+unfoldable pub shifts : Mode → ℕ → Bool
+shifts Normal taps = taps == 5
+shifts Setup taps = taps == 2 || taps == 10
+shifts Factory taps = taps == 2
 
 -- What such taps write is written, the password's bytes too.
 pub record Writes (mode : Mode) (taps : ℕ) (numbers all numbers' all' : List ℕ) : Type 0 where

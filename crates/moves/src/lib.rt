@@ -1,5 +1,6 @@
 // What a tick moves in place: the timers and the motion of the core, the save, and the mode where one run of taps is all that a tick
 // completes.
+ghost use Rattle.core.specs.Prelude.{◌≡◌};
 ghost use Rattle.state.specs.State.{core_of, passwordOf};
 ghost use Rattle.state.specs.Code.{CoreKept};
 ghost use Rattle.moves.specs.Code.{passedCore, Moves, Saves};

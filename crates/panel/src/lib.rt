@@ -2,9 +2,10 @@
 // paddle in order its contacts, then of each its taps, then hold, then gap. Of contacts bit 0 says that the local one is down and
 // bit 1 that the slave one is; the bits above them say nothing.
 ghost use Rattle.std.specs.Prelude.{◌≡◌, ◌<◌};
+ghost use Rattle.paddle.specs.Paddle.{gesture};
 ghost use Rattle.model.specs.Model.{paddleCount};
 ghost use Rattle.panel.specs.Panel.{localIn, slaveIn, contactsNumber, paddleFrom, paddlesOf, pressedAt, keptContacts, keptPaddle, keptPaddles, freshPaddles};
-ghost use Rattle.panel.specs.Code.{Lifts};
+ghost use Rattle.panel.specs.Code.{loudAt, quietBytes, leftBy, usedUp, ranAt, ranBytes, Lifts, Ticks, TicksAt};
 
 use model::{PADDLES, kind_of, paddle_of};
 use paddle::{Gesture, Paddle};
@@ -13,13 +14,13 @@ use paddle::{Gesture, Paddle};
 pub const BYTES: usize = 4 * PADDLES;
 
 // Where the first paddle's byte of each kind stands.
-pub const CONTACTS: usize = 0;
+const CONTACTS: usize = 0;
 
-pub const TAPS: usize = PADDLES;
+const TAPS: usize = PADDLES;
 
-pub const HOLD: usize = 2 * PADDLES;
+const HOLD: usize = 2 * PADDLES;
 
-pub const GAP: usize = 3 * PADDLES;
+const GAP: usize = 3 * PADDLES;
 
 // All of them up, and nothing counted.
 pub fn raise(paddles: &mut [u8; BYTES])
@@ -50,6 +51,115 @@ pub fn release(contact: u8, paddles: &mut [u8; BYTES]) -> Gesture
     let gesture = turn.gesture;
     keep_paddle(i, turn.paddle, paddles);
     gesture
+}
+
+// Whether the next tick completes no gesture.
+pub fn quiet(paddles: &[u8; BYTES]) -> bool
+    ensures { result ≡ quietBytes paddles.now }
+{
+    let mut loud = false;
+    let mut i = 0;
+    while i < PADDLES {
+        loud = loud | loud_at(i, paddles);
+        i += 1;
+    }
+    !loud
+}
+
+// Whether the next tick completes a gesture of the paddle: Hold while it is down, or up the close of a run. All four bytes are read
+// before the test.
+fn loud_at(i: usize, paddles: &[u8; BYTES]) -> bool
+    requires { i < paddleCount }
+    ensures { result ≡ loudAt i paddles.now }
+{
+    let down = paddles[CONTACTS + i] & 3 != 0;
+    let hold = paddles[HOLD + i] == 1;
+    let gap = paddles[GAP + i] <= 1;
+    let taps = paddles[TAPS + i] != 0;
+    if down {
+        return hold;
+    }
+    gap & taps
+}
+
+// A tick that completes no gesture: the timers run.
+pub fn run(paddles: &mut [u8; BYTES])
+    ensures { paddles.new ≡ ranBytes paddles.old }
+{
+    let mut i = 0;
+    while i < PADDLES {
+        run_at(i, paddles);
+        i += 1;
+    }
+}
+
+fn run_at(i: usize, paddles: &mut [u8; BYTES])
+    requires { i < paddleCount }
+    ensures { paddles.new ≡ ranAt i paddles.old }
+{
+    let hold = paddles[HOLD + i];
+    paddles[HOLD + i] = left(paddles[CONTACTS + i], hold);
+    let gap = paddles[GAP + i];
+    paddles[GAP + i] = timers::run_byte(gap);
+}
+
+// Hold comes nearer only while the paddle is down.
+fn left(contacts: u8, hold: u8) -> u8
+    ensures { result ≡ leftBy contacts hold }
+{
+    if contacts & 3 == 0 {
+        return hold;
+    }
+    timers::run_byte(hold)
+}
+
+// Any tick, and the gesture of each paddle.
+pub fn tick(paddles: &mut [u8; BYTES]) -> [Gesture; PADDLES]
+    ensures { Ticks paddles.old result paddles.new }
+{
+    let mut gestures = [Gesture::Nothing; PADDLES];
+    let mut i = 0;
+    while i < PADDLES {
+        let gesture = tick_at(i, paddles);
+        gestures[i] = gesture;
+        i += 1;
+    }
+    gestures
+}
+
+fn tick_at(i: usize, paddles: &mut [u8; BYTES]) -> Gesture
+    requires { i < paddleCount }
+    ensures { TicksAt i paddles.old result paddles.new }
+{
+    let gesture = gesture_at(i, paddles);
+    use_up(i, gesture, paddles);
+    run_at(i, paddles);
+    gesture
+}
+
+// A gesture uses up the taps.
+fn use_up(i: usize, gesture: Gesture, paddles: &mut [u8; BYTES])
+    requires { i < paddleCount }
+    ensures { paddles.new ≡ usedUp i gesture paddles.old }
+{
+    if gesture.none() {
+        return;
+    }
+    paddles[TAPS + i] = 0;
+}
+
+// The gesture that the next tick completes.
+fn gesture_at(i: usize, paddles: &[u8; BYTES]) -> Gesture
+    requires { i < paddleCount }
+    ensures { result ≡ gesture (paddleFrom i paddles.now) }
+{
+    if !loud_at(i, paddles) {
+        return Gesture::Nothing;
+    }
+    if paddles[CONTACTS + i] & 3 == 0 {
+        return Gesture::Taps(paddles[TAPS + i]);
+    }
+    Gesture::Hold
 }
 
 fn paddle_at(i: usize, paddles: &[u8; BYTES]) -> Paddle

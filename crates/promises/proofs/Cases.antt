@@ -28,12 +28,10 @@ use Rattle.dimmer.proofs.Laws.{fade-ends, fade-runs}
 use Rattle.paddle.specs.Paddle.{down, freshPaddle, pressed}
 use Rattle.paddle.specs.declared.Gesture.TheVariants.{Taps}
 use Rattle.paddle.specs.declared.Paddle.{Paddle}
-use Rattle.lamp.specs.Lamp.{signalSet, freshLamp}
-use Rattle.colours.specs.Colours.{bit_of, bitColour, colour}
+use Rattle.lamp.specs.Lamp.{bit_of, bitColour, signalSet, colour, freshLamp}
 use Rattle.lamp.specs.declared.Lamp.{Lamp}
-use Rattle.lamp.proofs.Laws.{output-plain, skip-none}
-use Rattle.colours.proofs.Laws.{version-shows}
-use Rattle.colours.specs.Code.{blinkAfter, versionAfter}
+use Rattle.lamp.proofs.Laws.{output-plain, skip-none, version-shows}
+use Rattle.lamp.specs.Code.{blinkAfter, versionAfter}
 use Rattle.model.specs.Model.{drives, kind_of, paddleOf, room, paddleCount, contactCount}
 use Rattle.places.specs.Places.{counterPlace, digitIn, dimmingIn, lightIn, networkIn, singleIn, size}
 use Rattle.registers.specs.Registers.{apart, found, seek, valid}

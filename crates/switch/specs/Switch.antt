@@ -1,7 +1,6 @@
 -- What a switch holds, what happens to it, and what it answers (01, Events and time).
 use Rattle.core.specs.Prelude.{ℕ, List}
-use Rattle.lamp.specs.Lamp.{output}
-use Rattle.colours.specs.Colours.{colour}
+use Rattle.lamp.specs.Lamp.{colour, output}
 use Rattle.paddle.specs.declared.Paddle.{Paddle}
 use Rattle.places.specs.Places.{digitIn, lightIn}
 use Rattle.vault.specs.Job.{Switch, switch}

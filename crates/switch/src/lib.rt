@@ -40,7 +40,7 @@ pub fn show(number: u8, sent: Sent, core: Core, all: &[u8; 256]) -> Answer
         number,
         level,
         output: lamp.output(level),
-        colour: colours::of(lamp, mode, digit, light, level),
+        colour: lamp.colour(mode, digit, light, level),
         mode,
     }
 }

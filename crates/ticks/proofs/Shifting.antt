@@ -22,9 +22,9 @@ use Rattle.post.specs.Post.{bytes_of, enveloped}
 use Rattle.turns.specs.Turns.{Moment, after, moment, turned}
 use Rattle.turns.specs.Code.{turnsBy}
 use Rattle.turns.proofs.Laws.{turned-nothing}
-use Rattle.runs.specs.Code.{alongside, lone, oneMore, shifts, tapsOf, with}
-use Rattle.runs.specs.declared.Alone.{Alone}
-use Rattle.runs.specs.declared.Alone.TheVariants.{Nobody, One, More}
+use Rattle.moves.specs.Code.{alongside, lone, oneMore, shifts, tapsOf, with}
+use Rattle.moves.specs.declared.shift.Alone.{Alone}
+use Rattle.moves.specs.declared.shift.Alone.TheVariants.{Nobody, One, More}
 
 -- What else the paddles complete: more stays more, and one run of taps is alone where nothing comes after it.
 more_stays : (gs : List Gesture) → alongside More gs ≡ More

@@ -23,14 +23,13 @@ use Rattle.outbox.specs.Code.{Sends, packetsIn}
 use Rattle.state.specs.State.{core_of, modeIn, passwordOf, saveIn}
 use Rattle.state.specs.Code.{CoreKept, Sized}
 use Rattle.panel.specs.Panel.{paddlesOf}
-use Rattle.waits.specs.Code.{quietBytes, ranBytes}
-use Rattle.waits.specs.Code as waits
-use Rattle.waits.proofs.Laws.{quiet-gestures, quiet-ran}
+use Rattle.panel.specs.Code.{quietBytes, ranBytes}
+use Rattle.panel.specs.Code as panel
+use Rattle.panel.proofs.Laws.{quiet-gestures, quiet-ran}
 use Rattle.turns.specs.Turns.{Moment, after, moment, turns}
 use Rattle.turns.specs.Code.{Stands, turnsBy}
 use Rattle.turns.proofs.Laws.{followed-nothing, nothing-followed, turns-by}
-use Rattle.runs.specs.Code.{lone, shifts}
-use Rattle.moves.specs.Code.{Shifts, passedCore, shifted}
+use Rattle.moves.specs.Code.{Shifts, lone, passedCore, shifted, shifts}
 use Rattle.ticks.proofs.Shifting.{lone-turns}
 use Rattle.switch.specs.Switch.{Plain, Shown, answerWith, switchOf, tick}
 use Rattle.switch.specs.Events.{finished, jobOfDeed, jobOfTick}
@@ -90,7 +89,7 @@ saved-stands m began c all all' packets w e s save apply =
 pub ticks-all :
     (c n l all out : List ℕ) (gs : List Gesture) (l' : List ℕ) (core old next : Core) (w w' : Password) (all₁ all₂ : List ℕ) (packets : List (List ℕ)) (e : Effect)
     (r : Answer) (c' n' out' : List ℕ)
-    → waits.Ticks l gs l' → core ≡ core_of c n → old ≡ aged core → w ≡ passwordOf n
+    → panel.Ticks l gs l' → core ≡ core_of c n → old ≡ aged core → w ≡ passwordOf n
     → Stands (turnsBy 0 gs (moment all old [] nothing)) w next all₁ packets w'
     → e ≡ saved next → all₂ ≡ applied e.write [] all₁
     → Finishes e.core w' packets c n all₂ out r c' n' out'
@@ -133,7 +132,7 @@ unsignalled c = refl
 -- A tick whose lone taps move the mode.
 pub ticks-shift :
     (c n l all out : List ℕ) (gs : List Gesture) (l' : List ℕ) (taps : ℕ) (mode : Mode) (moves : Bool) (c' n' all' : List ℕ) (none : Sent) (r : Answer)
-    → Sized c n → waits.Ticks l gs l' → taps ≡ lone gs → mode ≡ modeIn n → moves ≡ shifts mode taps → moves ≡ true
+    → Sized c n → panel.Ticks l gs l' → taps ≡ lone gs → mode ≡ modeIn n → moves ≡ shifts mode taps → moves ≡ true
     → Shifts taps c n all c' n' all' → none ≡ tally [] → r ≡ answerWith 0 none all' (core_of c' n')
     → Ticks c n l all out r c' n' l' all' out
 unfolding jobOfTick core_of aged after placed

@@ -6,7 +6,7 @@ use Rattle.paddle.specs.declared.Gesture.{Gesture}
 use Rattle.acts.specs.declared.Core.{Core}
 use Rattle.outbox.specs.Outbox.{placed, tally}
 use Rattle.state.specs.Code.{CoreKept}
-use Rattle.waits.specs.Code as waits
+use Rattle.panel.specs.Code as panel
 use Rattle.switch.specs.Switch.{answerWith, switchOf}
 use Rattle.switch.specs.Events.{jobOfTick}
 use Rattle.switch.specs.Respond.{Leaves}
@@ -28,4 +28,4 @@ Ticks counters numbers paddles all out =
 -- The same by the gestures that the paddles complete, whatever bytes these stand in.
 abbrev pub Turns : List Gesture → List ℕ → List ℕ → List ℕ → List ℕ → Answer → List ℕ → List ℕ → List ℕ → List ℕ → Type 0
 Turns gs counters numbers all out answer counters' numbers' all' out' =
-    (paddles paddles' : List ℕ) → waits.Ticks paddles gs paddles' → Ticks counters numbers paddles all out answer counters' numbers' paddles' all' out'
+    (paddles paddles' : List ℕ) → panel.Ticks paddles gs paddles' → Ticks counters numbers paddles all out answer counters' numbers' paddles' all' out'

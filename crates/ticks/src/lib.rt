@@ -11,11 +11,10 @@ use answers::Answer;
 use lamp::Colour;
 use model::{PADDLES, ROOM};
 use moves::pass;
-use moves::shift::shift;
+use moves::shift::{lone, shift, shifts};
 use outbox::{Outbox, Sent};
 use paddle::Gesture;
 use panel::BYTES;
-use runs::{lone, shifts};
 use state::core::{core_of, keep, mode_in, password_of, save_in};
 use state::{COUNTERS, NUMBERS, sized};
 use switch::{show, shown};
@@ -42,12 +41,12 @@ pub fn tick(
         let answer = complete(counters, numbers, paddles, all, out);
         return answer;
     }
-    if !waits::quiet(paddles) {
+    if !panel::quiet(paddles) {
         let answer = complete(counters, numbers, paddles, all, out);
         return answer;
     }
     sized(counters, numbers);
-    waits::run(paddles);
+    panel::run(paddles);
     pass(counters, numbers);
     shown(0, Sent::none(), counters, numbers, all)
 }
@@ -63,7 +62,7 @@ fn complete(
     ensures { Ticks counters.old numbers.old paddles.old all.old out.old result counters.new numbers.new paddles.new all.new out.new }
 {
     sized(counters, numbers);
-    let gestures = waits::tick(paddles);
+    let gestures = panel::tick(paddles);
     let taps = lone(gestures);
     if shifts(mode_in(numbers), taps) {
         shift(taps, counters, numbers, all);

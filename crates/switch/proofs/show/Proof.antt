@@ -13,13 +13,13 @@ light-requires c κs = search rules
 output-requires : tie.Need-output-requires
 output-requires c κs = search rules
 
-of-requires : tie.Need-of-requires
-of-requires c κs = search rules
+colour-requires : tie.Need-colour-requires
+colour-requires c κs = search rules
 
 returns : tie.Need-returns
 unfolding answerWith
-returns c = simp (c.of.ensures, c.before.output.ensures, c.before.before.light.ensures, c.before.before.before.digit.ensures)
+returns c = simp (c.colour.ensures, c.before.output.ensures, c.before.before.light.ensures, c.before.before.before.digit.ensures)
 
 pub show-spec : {M : Type 1} → statement M
 show-spec =
-    tie.close (tie.spec digit-requires light-requires output-requires of-requires returns)
+    tie.close (tie.spec digit-requires light-requires output-requires colour-requires returns)

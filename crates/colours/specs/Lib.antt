@@ -1,2 +1,0 @@
-pub mod Colours
-pub mod Code
