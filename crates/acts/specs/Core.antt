@@ -2,18 +2,18 @@
 use Rattle.std.specs.Prelude.{List, ℕ, ltb}
 use Rattle.words.specs.Words.{if◌then◌else◌}
 use Rattle.timers.specs.Timers.{less, beats, metronome}
-use Rattle.units.specs.Units.{off, percent, step_of, percentOf}
+use Rattle.units.specs.Units.{off, percent, step_of, percent_of}
 use Rattle.units.specs.declared.Step.{Step}
 use Rattle.vault.specs.declared.Mode.{Mode}
 use Rattle.vault.specs.declared.Mode.TheVariants.{Normal, Setup}
-use Rattle.levels.specs.Levels.{optionsOf}
-use Rattle.dimmer.specs.Dimmer.{set_to, stopped, ticked, freshDimmer}
+use Rattle.levels.specs.Levels.{options_of}
+use Rattle.dimmer.specs.Dimmer.{set_to, stopped, ticked, fresh_dimmer}
 use Rattle.dimmer.specs.declared.Dimmer.{Dimmer}
-use Rattle.lamp.specs.Lamp.{freshLamp, entered as flashed, nextLamp, signalSet}
+use Rattle.lamp.specs.Lamp.{fresh_lamp, entered as flashed, next_lamp, signal_set}
 use Rattle.lamp.specs.declared.Lamp.{Lamp}
 use Rattle.lamp.specs.declared.Colour.{Colour}
 use Rattle.model.specs.Model.{drives}
-use Rattle.places.specs.Places.{dimmingIn, savedIn}
+use Rattle.places.specs.Places.{dimming_in, saved_in}
 use Rattle.writes.specs.declared.Write.{Write}
 use Rattle.writes.specs.declared.Write.TheVariants.{Nothing, Count, Save}
 use Rattle.places.specs.declared.Counter.TheVariants.{Setups}
@@ -32,36 +32,36 @@ unfoldable pub unwritten : Core → Effect
 unwritten c = effect c Nothing
 
 -- 01, Paddles, 16: ticks from one save of the level to the next.
-abbrev pub saveTicks : ℕ
-saveTicks = 480
+abbrev pub save_ticks : ℕ
+save_ticks = 480
 
 -- 01, Lamp, start, factory values, 5: the level of a saved percent; off where it is no percent.
-unfoldable pub startLevel : ℕ → Step
-startLevel saved = if ltb 100 saved then off else step_of (percent saved)
+unfoldable pub start_level : ℕ → Step
+start_level saved = if ltb 100 saved then off else step_of (percent saved)
 
 -- 01, Lamp, start, factory values, 5: Normal, at the saved level, all timers clear. The version blinks and the count to the save begin.
 unfoldable pub started : List ℕ → Core
-started all = core Normal (freshDimmer (startLevel (savedIn all))) freshLamp (less saveTicks)
+started all = core Normal (fresh_dimmer (start_level (saved_in all))) fresh_lamp (less save_ticks)
 
 -- 01, Paddles, 16: the first two stages of a tick, lamp with output, then dimmer.
 unfoldable pub aged : Core → Core
-aged c = core c.mode (ticked c.dimmer) (nextLamp c.lamp) c.save
+aged c = core c.mode (ticked c.dimmer) (next_lamp c.lamp) c.save
 
 -- 01, Paddles, 16: what a tick's last stage writes, which is the percent at each 480th.
-unfoldable pub toSave : Core → Write
-toSave c = if beats c.save then Save (percentOf c.dimmer.level) else Nothing
+unfoldable pub to_save : Core → Write
+to_save c = if beats c.save then Save (percent_of c.dimmer.level) else Nothing
 
 -- The last stage of a tick: what is written, and the count to the next save.
 unfoldable pub saved : Core → Effect
-saved c = effect (core c.mode c.dimmer c.lamp (metronome saveTicks c.save)) (toSave c)
+saved c = effect (core c.mode c.dimmer c.lamp (metronome save_ticks c.save)) (to_save c)
 
 -- The core with another dimmer.
-abbrev pub withDimmer : Dimmer → Core → Core
-withDimmer d c = core c.mode d c.lamp c.save
+abbrev pub with_dimmer : Dimmer → Core → Core
+with_dimmer d c = core c.mode d c.lamp c.save
 
 -- 01, Levels and fades, 6: a level is set by what 0x8D says at that moment.
-unfoldable pub setBy : List ℕ → ℕ → ℕ → Dimmer → Dimmer
-setBy all level rate d = set_to d level rate (optionsOf (dimmingIn all))
+unfoldable pub set_by : List ℕ → ℕ → ℕ → Dimmer → Dimmer
+set_by all level rate d = set_to d level rate (options_of (dimming_in all))
 
 -- 01, Paddles, 6 to 9: what a paddle does to the dimmer it does only where it drives the load.
 unfoldable pub loaded : ℕ → Dimmer → Dimmer → Dimmer
@@ -69,7 +69,7 @@ loaded paddle driven idle = if drives paddle then driven else idle
 
 -- 01, Levels and fades, 6: a paddle sets a level, by what 0x8D says at that moment.
 unfoldable pub setting : List ℕ → ℕ → ℕ → ℕ → Core → Core
-setting all paddle level rate c = withDimmer (loaded paddle (setBy all level rate c.dimmer) c.dimmer) c
+setting all paddle level rate c = with_dimmer (loaded paddle (set_by all level rate c.dimmer) c.dimmer) c
 
 -- 01, Levels and fades, 9: a paddle stops what runs.
 unfoldable pub halted : ℕ → Dimmer → Dimmer
@@ -77,7 +77,7 @@ halted paddle d = loaded paddle (stopped d) d
 
 -- 01, Levels and fades, 9: the same, in a core.
 unfoldable pub stopping : ℕ → Core → Core
-stopping paddle c = withDimmer (halted paddle c.dimmer) c
+stopping paddle c = with_dimmer (halted paddle c.dimmer) c
 
 -- 01, Paddles, 10 and 01, Lamp, start, factory values, 2: with a new mode its flash and its blinks begin.
 unfoldable pub entering : Mode → Core → Core
@@ -85,7 +85,7 @@ entering mode c = core mode c.dimmer (flashed c.lamp) c.save
 
 -- 01, Lamp, start, factory values, 1 (diagnostic): the lamp's signal of a packet begins.
 unfoldable pub signalled : Colour → Core → Core
-signalled hue c = core c.mode c.dimmer (signalSet hue c.lamp) c.save
+signalled hue c = core c.mode c.dimmer (signal_set hue c.lamp) c.save
 
 -- 01, Paddles, 11: Setup is entered, and 0xFA counts it.
 unfoldable pub opened : Core → Effect

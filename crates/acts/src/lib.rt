@@ -1,8 +1,9 @@
 // The core of a switch, and what a tick, a level set, a stop and a new mode make of it. The registers are only read here; what
 // is to be written to them comes back.
+#![tactic(auto)]
 ghost use Rattle.std.specs.Prelude.{◌≡◌};
 ghost use Rattle.timers.specs.Timers.{metronome};
-ghost use Rattle.acts.specs.Core.{saveTicks, unwritten, startLevel, started, aged, toSave, saved, setBy, setting, halted, stopping, entering, signalled, opened};
+ghost use Rattle.acts.specs.Core.{save_ticks, unwritten, start_level, started, aged, to_save, saved, set_by, setting, halted, stopping, entering, signalled, opened};
 
 use dimmer::Dimmer;
 use lamp::{Colour, Lamp};
@@ -16,7 +17,7 @@ use writes::Write;
 const SAVE: u16 = 480;
 
 // All that a switch holds besides its registers, its paddles and its password. `save`: the metronome of the saved level.
-#[derive(Drop)]
+#[derive(Clone, Copy)]
 pub struct Core {
     pub mode: Mode,
     pub dimmer: Dimmer,
@@ -25,7 +26,7 @@ pub struct Core {
 }
 
 // What an act leaves: the next core, and what is to be written to the registers.
-#[derive(Drop)]
+#[derive(Clone, Copy)]
 pub struct Effect {
     pub core: Core,
     pub write: Write,
@@ -64,7 +65,7 @@ impl Core {
     }
 
     fn to_save(self) -> Write
-        ensures { result ≡ toSave self }
+        ensures { result ≡ to_save self }
     {
         if self.save == 0 {
             let dimmer = self.dimmer;
@@ -137,14 +138,14 @@ impl Core {
 
 // The metronome of the saved level, one tick later.
 pub fn next_save(save: u16) -> u16
-    ensures { result ≡ metronome saveTicks save }
+    ensures { result ≡ metronome save_ticks save }
 {
     timers::turn(SAVE, save)
 }
 
 // Sets a level by what 0x8D says now.
 pub fn set_by(dimmer: Dimmer, all: &[u8; 256], level: u8, rate: u8) -> Dimmer
-    ensures { result ≡ setBy all.now level rate dimmer }
+    ensures { result ≡ set_by all.now level rate dimmer }
 {
     let options = Options::of(places::dimming(all));
     dimmer.set(level, rate, options)
@@ -161,7 +162,7 @@ pub fn halted(dimmer: Dimmer, paddle: u8) -> Dimmer
 }
 
 fn start_level(saved: u8) -> Step
-    ensures { result ≡ startLevel saved }
+    ensures { result ≡ start_level saved }
 {
     if 100 < saved {
         return Step::OFF;

@@ -12,13 +12,13 @@ use lib.ListN.{length, get_or, drop}
 use lib.Seq.{drop-cons}
 use Rattle.words.specs.Words.{if◌then◌else◌}
 use Rattle.vault.specs.Job.{Switch, switch}
-use Rattle.model.specs.Model.{paddleCount}
+use Rattle.model.specs.Model.{paddle_count}
 use Rattle.panel.specs.Panel.{byte_count}
 use Rattle.state.specs.Code.{Sized}
-use Rattle.state.proofs.Laws.{core-back, password-back}
-use Rattle.panel.proofs.Laws.{paddles-back}
-use Rattle.switch.specs.Switch.{Plain, plain, answer_of, answerWith, Arrays, arrays, switchIn, keptIn}
-use Rattle.switch.specs.Respond.{Starts, whole, startAnswer, startedFrom}
+use Rattle.state.proofs.Laws.{core_back, password_back}
+use Rattle.panel.proofs.Laws.{paddles_back}
+use Rattle.switch.specs.Switch.{Plain, plain, answer_of, answer_with, Arrays, arrays, switch_in, kept_in}
+use Rattle.switch.specs.Respond.{Starts, whole, start_answer, started_from}
 use Rattle.answers.specs.declared.Answer.{Answer}
 use Rattle.page.specs.Page.{Page, puts}
 use Rattle.ledger.specs.Writing.{started, answered}
@@ -26,8 +26,8 @@ use Rattle.line.specs.declared.Line.{Line}
 use Rattle.line.specs.declared.Line.TheVariants.{Pass, Unread, Image, Room, Press, Release, Ticks, Packet, Restart, Dump}
 use Rattle.line.specs.contracts.Line.{the_type}
 use Rattle.stage.specs.declared.Desk.{Desk}
-use Rattle.stage.specs.Stage.{scene, scene_of, deed_of, told, Plays, Scene, letterOf}
-use Rattle.desk.specs.Playing.{cleared, begun, ticksOf, same, played, eventOf}
+use Rattle.stage.specs.Stage.{scene, scene_of, deed_of, told, Plays, Scene, letter_of}
+use Rattle.desk.specs.Playing.{cleared, begun, ticks_of, same, played, event_of}
 use Rattle.stage.specs.declared.Event.TheVariants as happens
 use Rattle.stage.specs.declared.Event.{Event}
 
@@ -46,21 +46,21 @@ unfolding same
 same_next a b i h g = rw (add-one, drop-cons a i 0, drop-cons b i 0)
 
 -- A start is answered 0 where the image is whole, and there alone.
-started-there : (image : List ℕ) → eqb (startAnswer image).number 0 ≡ whole image
-unfolding startAnswer answer_of answerWith
-started-there image = by_size (whole image) refl
+started_there : (image : List ℕ) → eqb (start_answer image).number 0 ≡ whole image
+unfolding start_answer answer_of answer_with
+started_there image = by_size (whole image) refl
   where
-    by_size : (b : Bool) → whole image ≡ b → eqb (startAnswer image).number 0 ≡ whole image
+    by_size : (b : Bool) → whole image ≡ b → eqb (start_answer image).number 0 ≡ whole image
     by_size true h = rw h
     by_size false h = rw h
 
 -- In arrays of their lengths the switch that was kept is the one that is read.
-pub kept_back : (a : Arrays) (s : Switch Plain) → Sized a.counters a.numbers → length a.paddles ≡ byte_count → length s.plain.paddles ≡ paddleCount
-    → switchIn (keptIn a s) ≡ s
+pub kept_back : (a : Arrays) (s : Switch Plain) → Sized a.counters a.numbers → length a.paddles ≡ byte_count → length s.plain.paddles ≡ paddle_count
+    → switch_in (kept_in a s) ≡ s
 kept_back a s sized long all =
-    let core = core-back a.counters a.numbers s.plain.core s.password sized in
-    let password = password-back a.counters a.numbers s.plain.core s.password sized in
-    let paddles = paddles-back a.paddles s.plain.paddles long all in
+    let core = core_back a.counters a.numbers s.plain.core s.password sized in
+    let password = password_back a.counters a.numbers s.plain.core s.password sized in
+    let paddles = paddles_back a.paddles s.plain.paddles long all in
     λ i. switch (plain s.plain.registers (core i) (paddles i)) (password i)
 
 -- Arrays that are chosen one by one are chosen together.
@@ -78,77 +78,77 @@ pub begins : (image : List ℕ) (desk : Desk) (c n l all c' n' l' all' : List �
     → Plays (begun image (scene_of desk c n l all buffer)) page (record { there = eqb answer.number 0; room = desk.room }) c' n' l' all' buffer page'
 unfolding begun
 begins image desk c n l all c' n' l' all' answer page page' start wrote buffer =
-    let there : eqb answer.number 0 ≡ whole image = rw start.answered (started-there image) in
-    let left : arrays c' n' l' all' ≡ (if whole image then keptIn cleared (startedFrom image) else arrays c n l all) =
-    (λ i. arrays (start.counted i) (start.numbered i) (start.moved i) (start.registers i)) ∙ chosen (whole image) (keptIn cleared (startedFrom image)) (arrays c n l all) in
+    let there : eqb answer.number 0 ≡ whole image = rw start.answered (started_there image) in
+    let left : arrays c' n' l' all' ≡ (if whole image then kept_in cleared (started_from image) else arrays c n l all) =
+    (λ i. arrays (start.counted i) (start.numbered i) (start.moved i) (start.registers i)) ∙ chosen (whole image) (kept_in cleared (started_from image)) (arrays c n l all) in
     record {
       after = λ i. scene (there i) (left i) desk.room buffer;
       written = wrote ∙ rw start.answered;
     }
 
 -- For a line that is no event, and for a restart, the code has a restart.
-pub no-event : (line : Line) → OneOf (0 ∷ 1 ∷ 2 ∷ 3 ∷ 6 ∷ 8 ∷ 9 ∷ []) (tag_of the_type line) → eventOf line ≡ happens.Restart
-unfolding eventOf
-no-event Pass k = refl
-no-event Unread k = refl
-no-event (Image n) k = refl
-no-event (Room n) k = refl
-no-event (Press n) k = absurd (miss (0 ∷ 1 ∷ 2 ∷ 3 ∷ 6 ∷ 8 ∷ 9 ∷ []) 4 tt k)
-no-event (Release n) k = absurd (miss (0 ∷ 1 ∷ 2 ∷ 3 ∷ 6 ∷ 8 ∷ 9 ∷ []) 5 tt k)
-no-event (Ticks n) k = refl
-no-event (Packet n) k = absurd (miss (0 ∷ 1 ∷ 2 ∷ 3 ∷ 6 ∷ 8 ∷ 9 ∷ []) 7 tt k)
-no-event Restart k = refl
-no-event Dump k = refl
+pub no_event : (line : Line) → OneOf (0 ∷ 1 ∷ 2 ∷ 3 ∷ 6 ∷ 8 ∷ 9 ∷ []) (tag_of the_type line) → event_of line ≡ happens.Restart
+unfolding event_of
+no_event Pass k = refl
+no_event Unread k = refl
+no_event (Image n) k = refl
+no_event (Room n) k = refl
+no_event (Press n) k = absurd (miss (0 ∷ 1 ∷ 2 ∷ 3 ∷ 6 ∷ 8 ∷ 9 ∷ []) 4 tt k)
+no_event (Release n) k = absurd (miss (0 ∷ 1 ∷ 2 ∷ 3 ∷ 6 ∷ 8 ∷ 9 ∷ []) 5 tt k)
+no_event (Ticks n) k = refl
+no_event (Packet n) k = absurd (miss (0 ∷ 1 ∷ 2 ∷ 3 ∷ 6 ∷ 8 ∷ 9 ∷ []) 7 tt k)
+no_event Restart k = refl
+no_event Dump k = refl
 
 -- A line that is an event does what its event does.
-event-line : (number : ℕ) (line : Line) (bytes : List ℕ) (s : Scene) → OneOf (4 ∷ 5 ∷ 7 ∷ 8 ∷ []) (tag_of the_type line)
-    → played number line bytes s ≡ told (letterOf (eventOf line)) (deed_of (eventOf line) bytes) s
-unfolding played eventOf
-event-line number Pass bytes s k = absurd (miss (4 ∷ 5 ∷ 7 ∷ 8 ∷ []) 0 tt k)
-event-line number Unread bytes s k = absurd (miss (4 ∷ 5 ∷ 7 ∷ 8 ∷ []) 1 tt k)
-event-line number (Image n) bytes s k = absurd (miss (4 ∷ 5 ∷ 7 ∷ 8 ∷ []) 2 tt k)
-event-line number (Room n) bytes s k = absurd (miss (4 ∷ 5 ∷ 7 ∷ 8 ∷ []) 3 tt k)
-event-line number (Press n) bytes s k = refl
-event-line number (Release n) bytes s k = refl
-event-line number (Ticks n) bytes s k = absurd (miss (4 ∷ 5 ∷ 7 ∷ 8 ∷ []) 6 tt k)
-event-line number (Packet n) bytes s k = refl
-event-line number Restart bytes s k = refl
-event-line number Dump bytes s k = absurd (miss (4 ∷ 5 ∷ 7 ∷ 8 ∷ []) 9 tt k)
+event_line : (number : ℕ) (line : Line) (bytes : List ℕ) (s : Scene) → OneOf (4 ∷ 5 ∷ 7 ∷ 8 ∷ []) (tag_of the_type line)
+    → played number line bytes s ≡ told (letter_of (event_of line)) (deed_of (event_of line) bytes) s
+unfolding played event_of
+event_line number Pass bytes s k = absurd (miss (4 ∷ 5 ∷ 7 ∷ 8 ∷ []) 0 tt k)
+event_line number Unread bytes s k = absurd (miss (4 ∷ 5 ∷ 7 ∷ 8 ∷ []) 1 tt k)
+event_line number (Image n) bytes s k = absurd (miss (4 ∷ 5 ∷ 7 ∷ 8 ∷ []) 2 tt k)
+event_line number (Room n) bytes s k = absurd (miss (4 ∷ 5 ∷ 7 ∷ 8 ∷ []) 3 tt k)
+event_line number (Press n) bytes s k = refl
+event_line number (Release n) bytes s k = refl
+event_line number (Ticks n) bytes s k = absurd (miss (4 ∷ 5 ∷ 7 ∷ 8 ∷ []) 6 tt k)
+event_line number (Packet n) bytes s k = refl
+event_line number Restart bytes s k = refl
+event_line number Dump bytes s k = absurd (miss (4 ∷ 5 ∷ 7 ∷ 8 ∷ []) 9 tt k)
 
 -- So the promise of the event is that of the line.
 pub told_line : (number : ℕ) (line : Line) (bytes : List ℕ) (s : Scene) (e : Event) (page page' : Page) (desk : Desk) (c n l all buffer : List ℕ)
     → OneOf (4 ∷ 5 ∷ 7 ∷ 8 ∷ []) (tag_of the_type line)
-    → e ≡ eventOf line
-    → Plays (told (letterOf e) (deed_of e bytes) s) page desk c n l all buffer page'
+    → e ≡ event_of line
+    → Plays (told (letter_of e) (deed_of e bytes) s) page desk c n l all buffer page'
     → Plays (played number line bytes s) page desk c n l all buffer page'
-told_line number line bytes s e page page' desk c n l all buffer is e-is plays = rw (event-line number line bytes s is, ← e-is) plays
+told_line number line bytes s e page page' desk c n l all buffer is e-is plays = rw (event_line number line bytes s is, ← e-is) plays
 
 -- Any line but `t` asks for no ticks.
-pub no-ticks : (line : Line) (there : Bool) → OneOf (0 ∷ 1 ∷ 2 ∷ 3 ∷ 4 ∷ 5 ∷ 7 ∷ 8 ∷ 9 ∷ []) (tag_of the_type line) → ticksOf line there ≡ 0
-unfolding ticksOf
-no-ticks Pass there k = refl
-no-ticks Unread there k = refl
-no-ticks (Image n) there k = refl
-no-ticks (Room n) there k = refl
-no-ticks (Press n) there k = refl
-no-ticks (Release n) there k = refl
-no-ticks (Ticks n) there k = absurd (miss (0 ∷ 1 ∷ 2 ∷ 3 ∷ 4 ∷ 5 ∷ 7 ∷ 8 ∷ 9 ∷ []) 6 tt k)
-no-ticks (Packet n) there k = refl
-no-ticks Restart there k = refl
-no-ticks Dump there k = refl
+pub no_ticks : (line : Line) (there : Bool) → OneOf (0 ∷ 1 ∷ 2 ∷ 3 ∷ 4 ∷ 5 ∷ 7 ∷ 8 ∷ 9 ∷ []) (tag_of the_type line) → ticks_of line there ≡ 0
+unfolding ticks_of
+no_ticks Pass there k = refl
+no_ticks Unread there k = refl
+no_ticks (Image n) there k = refl
+no_ticks (Room n) there k = refl
+no_ticks (Press n) there k = refl
+no_ticks (Release n) there k = refl
+no_ticks (Ticks n) there k = absurd (miss (0 ∷ 1 ∷ 2 ∷ 3 ∷ 4 ∷ 5 ∷ 7 ∷ 8 ∷ 9 ∷ []) 6 tt k)
+no_ticks (Packet n) there k = refl
+no_ticks Restart there k = refl
+no_ticks Dump there k = refl
 
 -- Rows are the same where they are equal, and there alone.
-pub same-itself : (row : List ℕ) → same row row ≡ true
+pub same_itself : (row : List ℕ) → same row row ≡ true
 unfolding same
-same-itself [] = refl
-same-itself (byte ∷ row) = rw (eq-eqb byte byte refl) (same-itself row)
+same_itself [] = refl
+same_itself (byte ∷ row) = rw (eq-eqb byte byte refl) (same_itself row)
 
-pub same-equal : (a b : List ℕ) → same a b ≡ true → a ≡ b
+pub same_equal : (a b : List ℕ) → same a b ≡ true → a ≡ b
 unfolding same
-same-equal [] [] h = refl
-same-equal [] (byte ∷ b) h = absurd (false≢true h)
-same-equal (byte ∷ a) [] h = absurd (false≢true h)
-same-equal (byte ∷ a) (byte' ∷ b) h = by_byte (eqb byte byte') refl (same-equal a b)
+same_equal [] [] h = refl
+same_equal [] (byte ∷ b) h = absurd (false≢true h)
+same_equal (byte ∷ a) [] h = absurd (false≢true h)
+same_equal (byte ∷ a) (byte' ∷ b) h = by_byte (eqb byte byte') refl (same_equal a b)
   where
     by_byte : (r : Bool) → eqb byte byte' ≡ r → (same a b ≡ true → a ≡ b) → (byte ∷ a) ≡ (byte' ∷ b)
     by_byte true e rest = rw (eqb-true byte byte' e, rest (rw e at h))

@@ -5,10 +5,10 @@ use Rattle.words.specs.Words.{if◌then◌else◌}
 use Rattle.vault.specs.declared.Password.{Password}
 use Rattle.model.specs.Model.{room}
 use Rattle.registers.specs.Registers.{image_of}
-use Rattle.state.specs.State.{counterCount, numberCount, passwordOf}
+use Rattle.state.specs.State.{counter_count, number_count, password_of}
 use Rattle.panel.specs.Panel.{byte_count}
-use Rattle.switch.specs.Switch.{Arrays, arrays, keptIn, press, release, receive, restart}
-use Rattle.switch.specs.Respond.{whole, startAnswer, startedFrom}
+use Rattle.switch.specs.Switch.{Arrays, arrays, kept_in, press, release, receive, restart}
+use Rattle.switch.specs.Respond.{whole, start_answer, started_from}
 use Rattle.line.specs.declared.Line.{Line}
 use Rattle.line.specs.declared.Line.TheVariants.{Pass, Unread, Image, Room, Press, Release, Ticks, Packet, Restart, Dump}
 use Rattle.stage.specs.declared.Event.{Event}
@@ -19,16 +19,16 @@ use Rattle.stage.specs.Stage.{Scene, scene, Done, done, told}
 
 -- Arrays in which nothing is left of a switch that stood there.
 abbrev pub cleared : Arrays
-cleared = arrays (replicate counterCount 0) (replicate numberCount 0) (replicate byte_count 0) []
+cleared = arrays (replicate counter_count 0) (replicate number_count 0) (replicate byte_count 0) []
 
 -- `i`: the switch of the image; a count other than 256 is refused, and then there is no switch, and the arrays stay. No buffer is lent.
 unfoldable pub begun : List ℕ → Scene → Done
 begun image s =
-    done (scene (whole image) (if whole image then keptIn cleared (startedFrom image) else s.arrays) s.room s.buffer) (started (startAnswer image))
+    done (scene (whole image) (if whole image then kept_in cleared (started_from image) else s.arrays) s.room s.buffer) (started (start_answer image))
 
 -- `d`: the 256 registers, the password among them, where there is a switch.
-unfoldable pub shownOf : Bool → List ℕ → Password → List ℕ
-shownOf there registers password = if not there then none (code "d") else dump (image_of registers password)
+unfoldable pub shown_of : Bool → List ℕ → Password → List ℕ
+shown_of there registers password = if not there then none (code "d") else dump (image_of registers password)
 
 -- `t` with no switch: written once, before any tick, unless it asks for none.
 unfoldable pub awaited : ℕ → Bool → List ℕ
@@ -45,33 +45,33 @@ played number (Release n) bytes s = told (code "r") (release n) s
 played number (Ticks n) bytes s = done s (awaited n s.there)
 played number (Packet n) bytes s = told (code "k") (receive (take n bytes)) s
 played number Restart bytes s = told (code "x") restart s
-played number Dump bytes s = done s (shownOf s.there s.arrays.registers (passwordOf s.arrays.numbers))
+played number Dump bytes s = done s (shown_of s.there s.arrays.registers (password_of s.arrays.numbers))
 
 -- The event that a line is, for the code; where it is none, a restart that nobody asks for.
-unfoldable pub eventOf : Line → Event
-eventOf Pass = happens.Restart
-eventOf Unread = happens.Restart
-eventOf (Image n) = happens.Restart
-eventOf (Room n) = happens.Restart
-eventOf (Press n) = happens.Press n
-eventOf (Release n) = happens.Release n
-eventOf (Ticks n) = happens.Restart
-eventOf (Packet n) = happens.Packet n
-eventOf Restart = happens.Restart
-eventOf Dump = happens.Restart
+unfoldable pub event_of : Line → Event
+event_of Pass = happens.Restart
+event_of Unread = happens.Restart
+event_of (Image n) = happens.Restart
+event_of (Room n) = happens.Restart
+event_of (Press n) = happens.Press n
+event_of (Release n) = happens.Release n
+event_of (Ticks n) = happens.Restart
+event_of (Packet n) = happens.Packet n
+event_of Restart = happens.Restart
+event_of Dump = happens.Restart
 
 -- How many ticks a line asks of the switch, where there is one.
-unfoldable pub ticksOf : Line → Bool → ℕ
-ticksOf Pass there = 0
-ticksOf Unread there = 0
-ticksOf (Image n) there = 0
-ticksOf (Room n) there = 0
-ticksOf (Press n) there = 0
-ticksOf (Release n) there = 0
-ticksOf (Ticks n) there = if there then n else 0
-ticksOf (Packet n) there = 0
-ticksOf Restart there = 0
-ticksOf Dump there = 0
+unfoldable pub ticks_of : Line → Bool → ℕ
+ticks_of Pass there = 0
+ticks_of Unread there = 0
+ticks_of (Image n) there = 0
+ticks_of (Room n) there = 0
+ticks_of (Press n) there = 0
+ticks_of (Release n) there = 0
+ticks_of (Ticks n) there = if there then n else 0
+ticks_of (Packet n) there = 0
+ticks_of Restart there = 0
+ticks_of Dump there = 0
 
 -- Two rows are equal, byte for byte: ticks with equal rows are written as one run.
 unfoldable pub same : List ℕ → List ℕ → Bool

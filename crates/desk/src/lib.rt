@@ -1,9 +1,10 @@
 // What a line of a script does to the switch on the desk, and what is written of it.
+#![tactic(auto)]
 ghost use Rattle.std.specs.Prelude.{◌≡◌, List, ℕ};
-ghost use Rattle.state.specs.State.{passwordOf};
+ghost use Rattle.state.specs.State.{password_of};
 ghost use Rattle.page.specs.Page.{page_of, puts};
 ghost use Rattle.stage.specs.Stage.{scene_of, Plays};
-ghost use Rattle.desk.specs.Playing.{begun, shownOf, awaited, eventOf, played, ticksOf, same};
+ghost use Rattle.desk.specs.Playing.{begun, shown_of, awaited, event_of, played, ticks_of, same};
 
 use line::Line;
 use page::front;
@@ -72,7 +73,7 @@ pub fn play(
 
 // The event that a line is. It is asked only of one that is an event: for any other the answer means nothing.
 fn event(line: Line) -> Event
-    ensures { result ≡ eventOf line }
+    ensures { result ≡ event_of line }
 {
     match line {
         Line::Press(contact) => Event::Press(contact),
@@ -84,7 +85,7 @@ fn event(line: Line) -> Event
 
 // How many ticks a line asks of the switch that is there.
 pub fn ticks(line: Line, desk: Desk) -> u32
-    ensures { result ≡ ticksOf line desk.there }
+    ensures { result ≡ ticks_of line desk.there }
 {
     let Line::Ticks(n) = line else {
         return 0;
@@ -151,7 +152,7 @@ fn wait(ticks: u32, desk: Desk, page: &mut [u8], at: usize) -> usize
 
 // The registers, where there is a switch.
 fn show(desk: Desk, numbers: &[u8; NUMBERS], all: &[u8; 256], page: &mut [u8], at: usize) -> usize
-    ensures { page_of page.new result ≡ puts (shownOf desk.there all.now (passwordOf numbers.now)) (page_of page.old at) }
+    ensures { page_of page.new result ≡ puts (shown_of desk.there all.now (password_of numbers.now)) (page_of page.old at) }
 {
     if !desk.there {
         return page::none(page, at, b'd');

@@ -1,10 +1,10 @@
 -- 01, Levels and fades: a level set, the fade or blink that moves it, a stop, and the ticks in between.
 use Rattle.std.specs.Prelude.{ℕ, ◌+◌, ◌-◌, ◌%◌, ◌≤◌, max, ltb, eqb}
 use Rattle.words.specs.Words.{if◌then◌else◌}
-use Rattle.timers.specs.Timers.{less, beats, metronome, metronomeBy, beatsBy}
+use Rattle.timers.specs.Timers.{less, beats, metronome, metronome_by, beats_by}
 use Rattle.units.specs.Units.{step, full, off}
 use Rattle.units.specs.declared.Step.{Step}
-use Rattle.levels.specs.Levels.{allowed, flipTicks, rateOf, remembered, ticksPerStep, wanted}
+use Rattle.levels.specs.Levels.{allowed, flip_ticks, rate_of, remembered, ticks_per_step, wanted}
 use Rattle.levels.specs.declared.Options.{Options}
 use Rattle.dimmer.specs.declared.Motion.{Motion}
 use Rattle.dimmer.specs.declared.Motion.TheVariants.{Idle, Fading, Blinking}
@@ -15,12 +15,12 @@ abbrev pub dimmer : Step → Step → Motion → Dimmer
 dimmer level last motion = record { level = level; last = last; motion = motion }
 
 -- 01, Levels and fades, 3: the Last On Level is full after a start or restart; nothing runs.
-unfoldable pub freshDimmer : Step → Dimmer
-freshDimmer level = dimmer level full Idle
+unfoldable pub fresh_dimmer : Step → Dimmer
+fresh_dimmer level = dimmer level full Idle
 
 -- A dimmer sent to a target: a fade begins where there is a way to go and time to take for it, else it is there at once.
-unfoldable pub headingTo : Step → Step → Step → ℕ → Dimmer
-headingTo from last target ticks =
+unfoldable pub heading_to : Step → Step → Step → ℕ → Dimmer
+heading_to from last target ticks =
     if eqb ticks 0 then dimmer target last Idle
     else if eqb from.0 target.0 then dimmer target last Idle
     else dimmer from last (Fading target ticks (less ticks))
@@ -29,7 +29,7 @@ headingTo from last target ticks =
 unfoldable pub set_to : Dimmer → ℕ → ℕ → Options → Dimmer
 set_to d level rate options =
     let target = allowed options.capable (wanted level d.last) in
-    headingTo d.level (remembered target d.last) target (ticksPerStep (rateOf options rate))
+    heading_to d.level (remembered target d.last) target (ticks_per_step (rate_of options rate))
 
 -- 01, Levels and fades, 8: a fade's next step, one nearer to its target.
 unfoldable pub towards : Step → Step → Step
@@ -49,18 +49,18 @@ unfoldable pub flipped : Step → Step
 flipped level = if eqb level.0 0 then full else off
 
 -- 01, Levels and fades, 10 to 12: Blink begins full, leaves the Last On Level alone, and replaces whatever ran.
-unfoldable pub setBlinking : Dimmer → ℕ → Dimmer
-setBlinking d value = dimmer full d.last (Blinking (flipTicks value) (less (flipTicks value)))
+unfoldable pub set_blinking : Dimmer → ℕ → Dimmer
+set_blinking d value = dimmer full d.last (Blinking (flip_ticks value) (less (flip_ticks value)))
 
 -- 01, Levels and fades, 9: a stop remembers the step that a fade or blink has come to; at rest it changes nothing.
-unfoldable pub stoppedFrom : Step → Step → Motion → Dimmer
-stoppedFrom level last Idle = dimmer level last Idle
-stoppedFrom level last (Fading target period left) = dimmer level (remembered level last) Idle
-stoppedFrom level last (Blinking period left) = dimmer level (remembered level last) Idle
+unfoldable pub stopped_from : Step → Step → Motion → Dimmer
+stopped_from level last Idle = dimmer level last Idle
+stopped_from level last (Fading target period left) = dimmer level (remembered level last) Idle
+stopped_from level last (Blinking period left) = dimmer level (remembered level last) Idle
 
 -- A stop of the whole dimmer.
 unfoldable pub stopped : Dimmer → Dimmer
-stopped d = stoppedFrom d.level d.last d.motion
+stopped d = stopped_from d.level d.last d.motion
 
 -- 01, Levels and fades, 8: a fade one tick later, with a step where its metronome beats.
 unfoldable pub faded : Step → Step → Step → ℕ → ℕ → Dimmer
@@ -74,14 +74,14 @@ flickered level last period left =
     dimmer (if beats left then flipped level else level) last (Blinking period (metronome period left))
 
 -- One tick later, by what runs.
-unfoldable pub tickedFrom : Step → Step → Motion → Dimmer
-tickedFrom level last Idle = dimmer level last Idle
-tickedFrom level last (Fading target period left) = faded level last target period left
-tickedFrom level last (Blinking period left) = flickered level last period left
+unfoldable pub ticked_from : Step → Step → Motion → Dimmer
+ticked_from level last Idle = dimmer level last Idle
+ticked_from level last (Fading target period left) = faded level last target period left
+ticked_from level last (Blinking period left) = flickered level last period left
 
 -- The dimmer one tick later.
 unfoldable pub ticked : Dimmer → Dimmer
-ticked d = tickedFrom d.level d.last d.motion
+ticked d = ticked_from d.level d.last d.motion
 
 -- A fade's target is at most 200.
 abbrev pub TargetWithin : Motion → Type 0
@@ -112,20 +112,20 @@ gone steps left level last target period =
     else dimmer target last Idle
 
 -- The level after so many flips.
-unfoldable pub flippedBy : ℕ → Step → Step
-flippedBy flips level =
+unfoldable pub flipped_by : ℕ → Step → Step
+flipped_by flips level =
     if eqb flips 0 then level
     else if eqb (flips % 2) 1 then flipped level
     else flipped (flipped level)
 
 -- n ticks later, in closed form: a fade has gone as many steps as its metronome has beaten, and a blink has flipped as often.
-unfoldable pub tickedByFrom : ℕ → Step → Step → Motion → Dimmer
-tickedByFrom n level last Idle = dimmer level last Idle
-tickedByFrom n level last (Fading target period left) =
-    gone (beatsBy n period left) (metronomeBy n period left) level last target period
-tickedByFrom n level last (Blinking period left) =
-    dimmer (flippedBy (beatsBy n period left) level) last (Blinking period (metronomeBy n period left))
+unfoldable pub ticked_by_from : ℕ → Step → Step → Motion → Dimmer
+ticked_by_from n level last Idle = dimmer level last Idle
+ticked_by_from n level last (Fading target period left) =
+    gone (beats_by n period left) (metronome_by n period left) level last target period
+ticked_by_from n level last (Blinking period left) =
+    dimmer (flipped_by (beats_by n period left) level) last (Blinking period (metronome_by n period left))
 
 -- The dimmer n ticks later.
-unfoldable pub tickedBy : ℕ → Dimmer → Dimmer
-tickedBy n d = tickedByFrom n d.level d.last d.motion
+unfoldable pub ticked_by : ℕ → Dimmer → Dimmer
+ticked_by n d = ticked_by_from n d.level d.last d.motion

@@ -1,12 +1,13 @@
 // The dimmer: its level, the Last On Level, and what moves the level. Methods take the state and hand the next one back.
+#![tactic(auto)]
 ghost use Rattle.std.specs.Prelude.{◌≡◌};
-ghost use Rattle.dimmer.specs.Dimmer.{headingTo, freshDimmer, set_to, stopped, setBlinking, towards, flipped, stepped, faded, flickered, ticked};
+ghost use Rattle.dimmer.specs.Dimmer.{heading_to, fresh_dimmer, set_to, stopped, set_blinking, towards, flipped, stepped, faded, flickered, ticked};
 
 use levels::{Options, allowed, blink_ticks, remembered, ticks, wanted};
 use units::Step;
 
 // What moves the level. `left` is the metronome of a fade's steps or a blink's flips.
-#[derive(Drop)]
+#[derive(Clone, Copy)]
 pub enum Motion {
     Idle,
     Fading {
@@ -21,7 +22,7 @@ pub enum Motion {
 }
 
 // `last`: the Last On Level.
-#[derive(Drop)]
+#[derive(Clone, Copy)]
 pub struct Dimmer {
     pub level: Step,
     pub last: Step,
@@ -31,7 +32,7 @@ pub struct Dimmer {
 impl Dimmer {
     // The dimmer after a start or restart.
     pub fn fresh(level: Step) -> Dimmer
-        ensures { result ≡ freshDimmer level }
+        ensures { result ≡ fresh_dimmer level }
     {
         Dimmer {
             level,
@@ -79,7 +80,7 @@ impl Dimmer {
 
     // Full at once, and then a flip every four ticks times the value.
     pub fn blink(self, value: u8) -> Dimmer
-        ensures { result ≡ setBlinking self value }
+        ensures { result ≡ set_blinking self value }
     {
         let last = self.last;
         let period = blink_ticks(value);
@@ -117,7 +118,7 @@ impl Dimmer {
 
 // A fade begins where there is a way to go and time to take for it.
 fn moved(from: Step, last: Step, target: Step, ticks: u16) -> Dimmer
-    ensures { result ≡ headingTo from last target ticks }
+    ensures { result ≡ heading_to from last target ticks }
 {
     if ticks == 0 {
         return Dimmer {

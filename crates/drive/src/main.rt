@@ -1,4 +1,5 @@
 // Plays a script on a switch: the file that the first argument names, or standard input, line by line to standard output.
+#![tactic(auto)]
 use desk::same;
 use libc::{STDERR_FILENO, STDIN_FILENO, STDOUT_FILENO};
 use line::{Line, read};

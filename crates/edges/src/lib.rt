@@ -1,4 +1,5 @@
 // Press and release edges of the contacts.
+#![tactic(auto)]
 ghost use Rattle.core.specs.Prelude.{◌≡◌, []};
 ghost use Rattle.vault.specs.Job.{nothing};
 ghost use Rattle.paddle.specs.declared.Gesture.TheVariants.{Release};

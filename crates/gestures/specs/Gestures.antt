@@ -4,11 +4,11 @@ use Rattle.std.specs.Prelude.{List, ℕ, eqb}
 use Rattle.words.specs.Words.{if◌then◌else◌}
 use Rattle.vault.specs.declared.Mode.{Mode}
 use Rattle.vault.specs.declared.Mode.TheVariants.{Normal, Setup, Factory}
-use Rattle.levels.specs.Levels.{optionsOf}
+use Rattle.levels.specs.Levels.{options_of}
 use Rattle.paddle.specs.declared.Gesture.{Gesture}
 use Rattle.paddle.specs.declared.Gesture.TheVariants.{Nothing, Taps, Hold, Release}
 use Rattle.model.specs.Model.{is_top}
-use Rattle.places.specs.Places.{singleIn, doubleIn, dimmingIn}
+use Rattle.places.specs.Places.{single_in, double_in, dimming_in}
 use Rattle.places.specs.declared.Action.{Action}
 use Rattle.places.specs.declared.Counter.TheVariants.{Setups}
 use Rattle.writes.specs.declared.Write.{Write}
@@ -18,8 +18,8 @@ use Rattle.acts.specs.declared.Core.{Core}
 use Rattle.acts.specs.declared.Effect.{Effect}
 
 -- 01, Paddles, 6: an action of the table sets its level at its rate.
-unfoldable pub byAction : List ℕ → ℕ → Action → Core → Core
-byAction all paddle action c = setting all paddle action.level action.rate c
+unfoldable pub by_action : List ℕ → ℕ → Action → Core → Core
+by_action all paddle action c = setting all paddle action.level action.rate c
 
 -- 01, Paddles, 7: the percent that a Hold heads for.
 unfoldable pub far : ℕ → ℕ
@@ -27,60 +27,60 @@ far paddle = if is_top paddle then 100 else 0
 
 -- 01, Paddles, 7: a Hold, which does nothing to a load that cannot dim. The rate 255 is the default rate.
 unfoldable pub holding : List ℕ → ℕ → Core → Core
-holding all paddle c = if (optionsOf (dimmingIn all)).capable then setting all paddle (far paddle) 255 c else c
+holding all paddle c = if (options_of (dimming_in all)).capable then setting all paddle (far paddle) 255 c else c
 
 -- 01, Paddles, 6: one tap and two act by the table, five open Setup.
-unfoldable pub tapsInNormal : List ℕ → ℕ → ℕ → Core → Effect
-tapsInNormal all paddle taps c =
-    if eqb taps 1 then unwritten (byAction all paddle (singleIn all paddle) c)
-    else if eqb taps 2 then unwritten (byAction all paddle (doubleIn all paddle) c)
+unfoldable pub taps_in_normal : List ℕ → ℕ → ℕ → Core → Effect
+taps_in_normal all paddle taps c =
+    if eqb taps 1 then unwritten (by_action all paddle (single_in all paddle) c)
+    else if eqb taps 2 then unwritten (by_action all paddle (double_in all paddle) c)
     else if eqb taps 5 then opened c
     else unwritten c
 
 -- 01, Paddles, 6 and 7. A Release stops, whether the load can dim or not.
-unfoldable pub actedInNormal : List ℕ → ℕ → Gesture → Core → Effect
-actedInNormal all paddle Nothing c = unwritten c
-actedInNormal all paddle (Taps n) c = tapsInNormal all paddle n c
-actedInNormal all paddle Hold c = unwritten (holding all paddle c)
-actedInNormal all paddle Release c = unwritten (stopping paddle c)
+unfoldable pub acted_in_normal : List ℕ → ℕ → Gesture → Core → Effect
+acted_in_normal all paddle Nothing c = unwritten c
+acted_in_normal all paddle (Taps n) c = taps_in_normal all paddle n c
+acted_in_normal all paddle Hold c = unwritten (holding all paddle c)
+acted_in_normal all paddle Release c = unwritten (stopping paddle c)
 
 -- 01, Paddles, 8: two taps leave Setup, ten set the factory values.
-unfoldable pub tapsInSetup : ℕ → Core → Effect
-tapsInSetup taps c =
+unfoldable pub taps_in_setup : ℕ → Core → Effect
+taps_in_setup taps c =
     if eqb taps 2 then unwritten (entering Normal c)
     else if eqb taps 10 then effect (entering Factory c) FactoryValues
     else unwritten c
 
 -- 01, Paddles, 8: nothing but taps acts in Setup.
-unfoldable pub actedInSetup : Gesture → Core → Effect
-actedInSetup Nothing c = unwritten c
-actedInSetup (Taps n) c = tapsInSetup n c
-actedInSetup Hold c = unwritten c
-actedInSetup Release c = unwritten c
+unfoldable pub acted_in_setup : Gesture → Core → Effect
+acted_in_setup Nothing c = unwritten c
+acted_in_setup (Taps n) c = taps_in_setup n c
+acted_in_setup Hold c = unwritten c
+acted_in_setup Release c = unwritten c
 
 -- 01, Paddles, 9: two taps leave Factory Default, one acts as in Normal, five do nothing.
-unfoldable pub tapsInFactory : List ℕ → ℕ → ℕ → Core → Effect
-tapsInFactory all paddle taps c =
-    if eqb taps 1 then unwritten (byAction all paddle (singleIn all paddle) c)
+unfoldable pub taps_in_factory : List ℕ → ℕ → ℕ → Core → Effect
+taps_in_factory all paddle taps c =
+    if eqb taps 1 then unwritten (by_action all paddle (single_in all paddle) c)
     else if eqb taps 2 then unwritten (entering Normal c)
     else unwritten c
 
 -- 01, Paddles, 9: Hold and Release act as in Normal.
-unfoldable pub actedInFactory : List ℕ → ℕ → Gesture → Core → Effect
-actedInFactory all paddle Nothing c = unwritten c
-actedInFactory all paddle (Taps n) c = tapsInFactory all paddle n c
-actedInFactory all paddle Hold c = unwritten (holding all paddle c)
-actedInFactory all paddle Release c = unwritten (stopping paddle c)
+unfoldable pub acted_in_factory : List ℕ → ℕ → Gesture → Core → Effect
+acted_in_factory all paddle Nothing c = unwritten c
+acted_in_factory all paddle (Taps n) c = taps_in_factory all paddle n c
+acted_in_factory all paddle Hold c = unwritten (holding all paddle c)
+acted_in_factory all paddle Release c = unwritten (stopping paddle c)
 
 -- What a gesture does in each mode.
-unfoldable pub actedIn : Mode → List ℕ → ℕ → Gesture → Core → Effect
-actedIn Normal all paddle g c = actedInNormal all paddle g c
-actedIn Setup all paddle g c = actedInSetup g c
-actedIn Factory all paddle g c = actedInFactory all paddle g c
+unfoldable pub acted_in : Mode → List ℕ → ℕ → Gesture → Core → Effect
+acted_in Normal all paddle g c = acted_in_normal all paddle g c
+acted_in Setup all paddle g c = acted_in_setup g c
+acted_in Factory all paddle g c = acted_in_factory all paddle g c
 
 -- The mode meant is the one that the gesture finds.
 unfoldable pub acted : List ℕ → ℕ → Gesture → Core → Effect
-acted all paddle g c = actedIn c.mode all paddle g c
+acted all paddle g c = acted_in c.mode all paddle g c
 
 -- What a gesture writes, by the mode that it finds and by nothing else.
 unfoldable pub writes : Mode → Gesture → Write

@@ -1,6 +1,7 @@
 // What a paddle's gesture does by the mode it finds. The paddle is known by its number; `model` says what it is to the load.
+#![tactic(auto)]
 ghost use Rattle.std.specs.Prelude.{◌≡◌};
-ghost use Rattle.gestures.specs.Gestures.{acted, actedInNormal, actedInSetup, actedInFactory, tapsInNormal, tapsInSetup, tapsInFactory, byAction, holding, far};
+ghost use Rattle.gestures.specs.Gestures.{acted, acted_in_normal, acted_in_setup, acted_in_factory, taps_in_normal, taps_in_setup, taps_in_factory, by_action, holding, far};
 
 use acts::{Core, Effect};
 use levels::Options;
@@ -21,7 +22,7 @@ pub fn act(core: Core, all: &[u8; 256], paddle: u8, gesture: Gesture) -> Effect
 }
 
 fn in_normal(core: Core, all: &[u8; 256], paddle: u8, gesture: Gesture) -> Effect
-    ensures { result ≡ actedInNormal all.now paddle gesture core }
+    ensures { result ≡ acted_in_normal all.now paddle gesture core }
 {
     match gesture {
         Gesture::Nothing => core.unwritten(),
@@ -32,7 +33,7 @@ fn in_normal(core: Core, all: &[u8; 256], paddle: u8, gesture: Gesture) -> Effec
 }
 
 fn in_setup(core: Core, gesture: Gesture) -> Effect
-    ensures { result ≡ actedInSetup gesture core }
+    ensures { result ≡ acted_in_setup gesture core }
 {
     match gesture {
         Gesture::Nothing => core.unwritten(),
@@ -43,7 +44,7 @@ fn in_setup(core: Core, gesture: Gesture) -> Effect
 }
 
 fn in_factory(core: Core, all: &[u8; 256], paddle: u8, gesture: Gesture) -> Effect
-    ensures { result ≡ actedInFactory all.now paddle gesture core }
+    ensures { result ≡ acted_in_factory all.now paddle gesture core }
 {
     match gesture {
         Gesture::Nothing => core.unwritten(),
@@ -55,7 +56,7 @@ fn in_factory(core: Core, all: &[u8; 256], paddle: u8, gesture: Gesture) -> Effe
 
 // Normal: one tap and two act by the action table, five open Setup.
 fn taps_in_normal(core: Core, all: &[u8; 256], paddle: u8, taps: u8) -> Effect
-    ensures { result ≡ tapsInNormal all.now paddle taps core }
+    ensures { result ≡ taps_in_normal all.now paddle taps core }
 {
     if taps == 1 {
         return doing(core, all, paddle, places::single(all, paddle)).unwritten();
@@ -71,7 +72,7 @@ fn taps_in_normal(core: Core, all: &[u8; 256], paddle: u8, taps: u8) -> Effect
 
 // Setup: two taps leave it, ten set the factory values.
 fn taps_in_setup(core: Core, taps: u8) -> Effect
-    ensures { result ≡ tapsInSetup taps core }
+    ensures { result ≡ taps_in_setup taps core }
 {
     if taps == 2 {
         return core.entering(Mode::Normal).unwritten();
@@ -87,7 +88,7 @@ fn taps_in_setup(core: Core, taps: u8) -> Effect
 
 // Factory Default: one tap acts as in Normal, two leave it.
 fn taps_in_factory(core: Core, all: &[u8; 256], paddle: u8, taps: u8) -> Effect
-    ensures { result ≡ tapsInFactory all.now paddle taps core }
+    ensures { result ≡ taps_in_factory all.now paddle taps core }
 {
     if taps == 1 {
         return doing(core, all, paddle, places::single(all, paddle)).unwritten();
@@ -99,7 +100,7 @@ fn taps_in_factory(core: Core, all: &[u8; 256], paddle: u8, taps: u8) -> Effect
 }
 
 fn doing(core: Core, all: &[u8; 256], paddle: u8, action: Action) -> Core
-    ensures { result ≡ byAction all.now paddle action core }
+    ensures { result ≡ by_action all.now paddle action core }
 {
     core.setting(all, paddle, action.level, action.rate)
 }

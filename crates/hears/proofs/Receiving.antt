@@ -4,17 +4,17 @@ use mathlib.Core.Path.{refl, sym, ap, subst, ◌∙◌}
 use native.Mathlib.Omega.{arith}
 use types.Run.{OneOf, miss}
 use denote.Enum.Declared.{tag_of}
-use Rattle.units.specs.Units.{percentOf}
-use Rattle.lamp.specs.Lamp.{signalSet}
+use Rattle.units.specs.Units.{percent_of}
+use Rattle.lamp.specs.Lamp.{signal_set}
 use Rattle.lamp.specs.declared.Colour.{Colour}
 use Rattle.lamp.specs.declared.Colour.TheVariants.{Black}
 use Rattle.lamp.specs.declared.Lamp.{Lamp}
 use Rattle.vault.specs.Job.{Answered, answered, changed, became, done, nothing, settled}
-use Rattle.vault.specs.Vault.{inSetup, matches}
+use Rattle.vault.specs.Vault.{in_setup, matches}
 use Rattle.vault.specs.declared.Mode.{Mode}
 use Rattle.vault.specs.declared.Mode.TheVariants.{Normal, Setup, Factory}
 use Rattle.vault.specs.declared.Password.{Password}
-use Rattle.packet.specs.Reading.{messageFrom, messageOf, numberOfFrame, read_of}
+use Rattle.packet.specs.Reading.{message_from, message_of, number_of_frame, read_of}
 use Rattle.packet.specs.declared.Frame.{Frame}
 use Rattle.packet.specs.declared.Frame.TheVariants as frame
 use Rattle.packet.specs.declared.Header.{Header}
@@ -25,31 +25,31 @@ use Rattle.judge.specs.declared.Order.{Order}
 use Rattle.judge.specs.declared.Order.TheVariants as order
 use Rattle.acts.specs.Core.{core, opened, signalled, unwritten}
 use Rattle.acts.specs.declared.Core.{Core}
-use Rattle.writes.specs.Writes.{applied, changeOf, changeAt}
+use Rattle.writes.specs.Writes.{applied, change_of, change_at}
 use Rattle.registers.specs.declared.Seen.TheVariants as seen
-use Rattle.post.specs.Post.{enveloped, replied, replyMessage}
+use Rattle.post.specs.Post.{enveloped, replied, reply_message}
 use Rattle.outbox.specs.Outbox.{placed, tally}
 use Rattle.post.specs.declared.Reply.TheVariants as reply
 use Rattle.outbox.specs.declared.Sent.{Sent}
 use Rattle.outbox.specs.Code.{lone}
-use Rattle.outbox.proofs.Laying.{reply-sends}
-use Rattle.state.specs.State.{core_of, lampOf, modeIn, passwordOf}
-use Rattle.panel.specs.Panel.{paddlesOf}
+use Rattle.outbox.proofs.Laying.{reply_sends}
+use Rattle.state.specs.State.{core_of, lamp_of, mode_in, password_of}
+use Rattle.panel.specs.Panel.{paddles_of}
 use Rattle.state.specs.Code.{CoreKept, LampKept, Sized}
-use Rattle.state.proofs.Laws.{only-lamp}
-use Rattle.panel.proofs.Laws.{paddles-same}
-use Rattle.obey.specs.Obey.{hueOf}
-use Rattle.verdict.specs.Code.{seenBy, seenOf, verdictOf, verdictOn}
-use Rattle.obey.specs.Code.{Obeys, Ready, effect_of, hueBy, replyOf}
+use Rattle.state.proofs.Laws.{only_lamp}
+use Rattle.panel.proofs.Laws.{paddles_same}
+use Rattle.obey.specs.Obey.{hue_of}
+use Rattle.verdict.specs.Code.{seen_by, seen_of, verdict_of, verdict_on}
+use Rattle.obey.specs.Code.{Obeys, Ready, effect_of, hue_by, reply_of}
 use Rattle.verdict.specs.declared.Verdict.{Verdict}
 use Rattle.verdict.specs.declared.Verdict.TheVariants.{Stop, Go}
-use Rattle.obey.proofs.Laws.{hue-told}
-use Rattle.switch.specs.Switch.{Plain, Shown, answerWith, event, plain, receive, switchOf}
-use Rattle.switch.specs.Events.{garbled, jobOfBytes, jobOfDeed, jobOfFrame, jobOfGuess, jobOfOrder, jobOfRead, jobOfWork, outcomeOf, plainAfter, refused}
+use Rattle.obey.proofs.Laws.{hue_told}
+use Rattle.switch.specs.Switch.{Plain, Shown, answer_with, event, plain, receive, switch_of}
+use Rattle.switch.specs.Events.{garbled, job_of_bytes, job_of_deed, job_of_frame, job_of_guess, job_of_order, job_of_read, job_of_work, outcome_of, plain_after, refused}
 use Rattle.switch.specs.Respond.{Responds, respond}
 use Rattle.switch.specs.Code.{told}
 use Rattle.answers.specs.declared.Answer.{Answer}
-use Rattle.switch.proofs.Laws.{leaves_all, leaves-shown, says, unchanged}
+use Rattle.switch.proofs.Laws.{leaves_all, leaves_shown, says, unchanged}
 
 -- A stop is no grant, and has one number.
 stops : Verdict → ℕ
@@ -60,70 +60,70 @@ number_of : Verdict → ℕ
 number_of (Stop n) = n
 number_of Go = 0
 
-apart-verdicts : (n : ℕ) → Go ≡ Stop n → ⊥
+apart_verdicts : (n : ℕ) → Go ≡ Stop n → ⊥
 unfolding stops
-apart-verdicts n h = let z : ◌≡◌ {A = ℕ} 0 1 = ap stops h in absurd (omega arith)
+apart_verdicts n h = let z : ◌≡◌ {A = ℕ} 0 1 = ap stops h in absurd (omega arith)
 
 same_number : {m n : ℕ} → Stop m ≡ Stop n → m ≡ n
 unfolding number_of
 same_number h = ap number_of h
 
 -- A guess is granted or stopped by whether it matches.
-guess-granted : (w guess : Password) → verdictOn w guess ≡ Go → matches w guess ≡ true
-unfolding verdictOn
-guess-granted w guess = go (matches w guess)
+guess_granted : (w guess : Password) → verdict_on w guess ≡ Go → matches w guess ≡ true
+unfolding verdict_on
+guess_granted w guess = go (matches w guess)
   where
     go : (b : Bool) → cond b Go (Stop 14) ≡ Go → b ≡ true
     go true h = refl
-    go false h = absurd (apart-verdicts 14 (sym h))
+    go false h = absurd (apart_verdicts 14 (sym h))
 
-guess-stopped : (w guess : Password) (n : ℕ) → verdictOn w guess ≡ Stop n → (matches w guess ≡ false) × (n ≡ 14)
-unfolding verdictOn
-guess-stopped w guess n = go (matches w guess)
+guess_stopped : (w guess : Password) (n : ℕ) → verdict_on w guess ≡ Stop n → (matches w guess ≡ false) × (n ≡ 14)
+unfolding verdict_on
+guess_stopped w guess n = go (matches w guess)
   where
     go : (b : Bool) → cond b Go (Stop 14) ≡ Stop n → (b ≡ false) × (n ≡ 14)
-    go true h = absurd (apart-verdicts n h)
+    go true h = absurd (apart_verdicts n h)
     go false h = (refl, sym (same_number h))
 
 -- A reading shows the password in Setup alone.
-seen-outcome :
+seen_outcome :
     (first count source : ℕ) (p : Plain) (w : Password) (mode : Mode) → p.core.mode ≡ mode
-    → settled w (jobOfRead first count source p)
-    ≡ answered (outcomeOf (unwritten p.core) [] source (reply.Registers first count) p (seenBy mode w)) w
-unfolding jobOfRead settled seenBy inSetup changed became outcomeOf plainAfter
-seen-outcome first count source p w Normal e = rw e
-seen-outcome first count source p w Setup e = rw e
-seen-outcome first count source p w Factory e = rw e
+    → settled w (job_of_read first count source p)
+    ≡ answered (outcome_of (unwritten p.core) [] source (reply.Registers first count) p (seen_by mode w)) w
+unfolding job_of_read settled seen_by in_setup changed became outcome_of plain_after
+seen_outcome first count source p w Normal e = rw e
+seen_outcome first count source p w Setup e = rw e
+seen_outcome first count source p w Factory e = rw e
 
 -- What a granted order comes to.
 abbrev granted : Order → ℕ → List ℕ → Plain → Password → Answered Plain Shown
 granted o source values p w =
     let e = effect_of p.registers o p.core in
-    answered (outcomeOf e values source (replyOf o) p (seenOf o p.core.mode w)) (changed (changeOf e.write values) w)
+    answered (outcome_of e values source (reply_of o) p (seen_of o p.core.mode w)) (changed (change_of e.write values) w)
 
-pub says-granted :
-    (o : Order) (source : ℕ) (values : List ℕ) (p : Plain) (w : Password) → verdictOf o w ≡ Go
-    → settled w (jobOfOrder o source values p) ≡ granted o source values p w
-unfolding verdictOf jobOfOrder jobOfGuess jobOfWork settled effect_of replyOf seenOf outcomeOf plainAfter opened unwritten applied changeOf changeAt changed became replied replyMessage enveloped
-says-granted (order.Refused n) source values p w h = absurd (apart-verdicts n (sym h))
-says-granted (order.Guess guess) source values p w h = rw (guess-granted w guess h)
-says-granted (order.Read first count) source values p w h = seen-outcome first count source p w p.core.mode refl
-says-granted (order.Work o) source values p w h = refl
+pub says_granted :
+    (o : Order) (source : ℕ) (values : List ℕ) (p : Plain) (w : Password) → verdict_of o w ≡ Go
+    → settled w (job_of_order o source values p) ≡ granted o source values p w
+unfolding verdict_of job_of_order job_of_guess job_of_work settled effect_of reply_of seen_of outcome_of plain_after opened unwritten applied change_of change_at changed became replied reply_message enveloped
+says_granted (order.Refused n) source values p w h = absurd (apart_verdicts n (sym h))
+says_granted (order.Guess guess) source values p w h = rw (guess_granted w guess h)
+says_granted (order.Read first count) source values p w h = seen_outcome first count source p w p.core.mode refl
+says_granted (order.Work o) source values p w h = refl
 
-pub says-stopped :
-    (o : Order) (source : ℕ) (values : List ℕ) (p : Plain) (w : Password) (n : ℕ) → verdictOf o w ≡ Stop n
-    → settled w (jobOfOrder o source values p) ≡ told n [] p w
-unfolding verdictOf jobOfOrder jobOfGuess settled refused changed became
-says-stopped (order.Refused m) source values p w n h = rw (← same_number h)
-says-stopped (order.Guess guess) source values p w n h =
-    let s = guess-stopped w guess n h in
+pub says_stopped :
+    (o : Order) (source : ℕ) (values : List ℕ) (p : Plain) (w : Password) (n : ℕ) → verdict_of o w ≡ Stop n
+    → settled w (job_of_order o source values p) ≡ told n [] p w
+unfolding verdict_of job_of_order job_of_guess settled refused changed became
+says_stopped (order.Refused m) source values p w n h = rw (← same_number h)
+says_stopped (order.Guess guess) source values p w n h =
+    let s = guess_stopped w guess n h in
     rw (s.0, s.1)
-says-stopped (order.Read first count) source values p w n h = absurd (apart-verdicts n h)
-says-stopped (order.Work o) source values p w n h = absurd (apart-verdicts n h)
+says_stopped (order.Read first count) source values p w n h = absurd (apart_verdicts n h)
+says_stopped (order.Work o) source values p w n h = absurd (apart_verdicts n h)
 
 -- What `let Frame::Read(..) = frame else` leaves does not read.
-unread : (f : Frame) (message : List ℕ) (p : Plain) → OneOf (1 ∷ 2 ∷ 3 ∷ 4 ∷ 5 ∷ []) (tag_of Frame.the_type f) → jobOfFrame f message p ≡ done (garbled (numberOfFrame f) p) nothing
-unfolding jobOfFrame
+unread : (f : Frame) (message : List ℕ) (p : Plain) → OneOf (1 ∷ 2 ∷ 3 ∷ 4 ∷ 5 ∷ []) (tag_of Frame.the_type f) → job_of_frame f message p ≡ done (garbled (number_of_frame f) p) nothing
+unfolding job_of_frame
 unread (frame.Read h) message p k = absurd (miss (1 ∷ 2 ∷ 3 ∷ 4 ∷ 5 ∷ []) 0 tt k)
 unread frame.Short message p k = refl
 unread frame.Long message p k = refl
@@ -132,85 +132,85 @@ unread frame.Sum message p k = refl
 unread frame.Reserved message p k = refl
 
 -- The signal kept alone.
-pub signal-alone :
-    (hue : Colour) (c n c' n' : List ℕ) → LampKept (signalSet hue (lampOf c n)) c n c' n' → CoreKept (signalled hue (core_of c n)) (passwordOf n) c n c' n'
+pub signal_alone :
+    (hue : Colour) (c n c' n' : List ℕ) → LampKept (signal_set hue (lamp_of c n)) c n c' n' → CoreKept (signalled hue (core_of c n)) (password_of n) c n c' n'
 unfolding core_of signalled
-signal-alone hue c n c' n' kept =
-    let whole = only-lamp c n (signalSet hue (lampOf c n)) in
+signal_alone hue c n c' n' kept =
+    let whole = only_lamp c n (signal_set hue (lamp_of c n)) in
     record { counted = kept.counted ∙ sym whole.0; numbered = kept.numbered ∙ sym whole.1 }
 
 -- The signal kept after an act.
-kept-signalled :
-    (k : Core) (w : Password) (hue : Colour) (c n c₁ n₁ c₂ n₂ : List ℕ) → LampKept (signalSet hue k.lamp) c₁ n₁ c₂ n₂ → Ready k w c n c₁ n₁
+kept_signalled :
+    (k : Core) (w : Password) (hue : Colour) (c n c₁ n₁ c₂ n₂ : List ℕ) → LampKept (signal_set hue k.lamp) c₁ n₁ c₂ n₂ → Ready k w c n c₁ n₁
     → CoreKept (signalled hue k) w c n c₂ n₂
 unfolding signalled
-kept-signalled k w hue c n c₁ n₁ c₂ n₂ lamp ready =
-    let l = signalSet hue k.lamp in
+kept_signalled k w hue c n c₁ n₁ c₂ n₂ lamp ready =
+    let l = signal_set hue k.lamp in
     record { counted = lamp.counted ∙ ready.counted l; numbered = lamp.numbered ∙ ready.numbered l }
 
 module _ (bytes c n l all out : List ℕ) (enough : room ≤ length out) (f : Frame) (read : f ≡ read_of bytes) where
-  asked : respond (switchOf c n l all) (event (length out) (receive bytes)) ≡ settled (passwordOf n) (jobOfFrame f (messageFrom f bytes) (switchOf c n l all).plain)
-  unfolding jobOfDeed jobOfBytes messageOf
+  asked : respond (switch_of c n l all) (event (length out) (receive bytes)) ≡ settled (password_of n) (job_of_frame f (message_from f bytes) (switch_of c n l all).plain)
+  unfolding job_of_deed job_of_bytes message_of
   asked =
-      says (switchOf c n l all).plain (passwordOf n) (length out) (receive bytes) enough
-      ∙ ap (λ (x : Frame). settled (passwordOf n) (jobOfFrame x (messageFrom x bytes) (switchOf c n l all).plain)) (sym read)
+      says (switch_of c n l all).plain (password_of n) (length out) (receive bytes) enough
+      ∙ ap (λ (x : Frame). settled (password_of n) (job_of_frame x (message_from x bytes) (switch_of c n l all).plain)) (sym read)
 
   pub garbled-responds :
       (number : ℕ) (c' n' : List ℕ) (none : Sent) (r : Answer) → Sized c n
-      → OneOf (1 ∷ 2 ∷ 3 ∷ 4 ∷ 5 ∷ []) (tag_of Frame.the_type f) → number ≡ numberOfFrame f
-      → LampKept (signalSet Black (lampOf c n)) c n c' n'
-      → none ≡ tally [] → r ≡ answerWith number none all (core_of c' n')
+      → OneOf (1 ∷ 2 ∷ 3 ∷ 4 ∷ 5 ∷ []) (tag_of Frame.the_type f) → number ≡ number_of_frame f
+      → LampKept (signal_set Black (lamp_of c n)) c n c' n'
+      → none ≡ tally [] → r ≡ answer_with number none all (core_of c' n')
       → Responds (receive bytes) c n l all out r c' n' l all out
   unfolding settled garbled placed
-  garbled-responds number c' n' none r sized tag numbered kept none-sent shows =
-      leaves-shown _ number [] (signalled Black (core_of c n)) (passwordOf n) (paddlesOf l) c n l out none r c' n' l all out sized
-      (asked ∙ ap (settled (passwordOf n)) (unread f (messageFrom f bytes) (switchOf c n l all).plain tag) ∙ rw (unchanged (passwordOf n), numbered))
-      none-sent shows (signal-alone Black c n c' n' kept) (sym (paddles-same l)) refl
+  garbled-responds number c' n' none r sized tag numbered kept none_sent shows =
+      leaves_shown _ number [] (signalled Black (core_of c n)) (password_of n) (paddles_of l) c n l out none r c' n' l all out sized
+      (asked ∙ ap (settled (password_of n)) (unread f (message_from f bytes) (switch_of c n l all).plain tag) ∙ rw (unchanged (password_of n), numbered))
+      none_sent shows (signal_alone Black c n c' n' kept) (sym (paddles_same l)) refl
 
-  module _ (h : Header) (message : List ℕ) (mode : Mode) (o : Order) (reads : f ≡ frame.Read h) (framed : message ≡ messageFrom (frame.Read h) bytes) (moded : mode ≡ modeIn n)
+  module _ (h : Header) (message : List ℕ) (mode : Mode) (o : Order) (reads : f ≡ frame.Read h) (framed : message ≡ message_from (frame.Read h) bytes) (moded : mode ≡ mode_in n)
       (judges : o ≡ judged all mode h message) where
-    ordered : respond (switchOf c n l all) (event (length out) (receive bytes)) ≡ settled (passwordOf n) (jobOfOrder o h.source (drop 2 message) (switchOf c n l all).plain)
-    unfolding jobOfFrame core_of
+    ordered : respond (switch_of c n l all) (event (length out) (receive bytes)) ≡ settled (password_of n) (job_of_order o h.source (drop 2 message) (switch_of c n l all).plain)
+    unfolding job_of_frame core_of
     ordered =
         asked
-        ∙ ap (λ (x : List ℕ). settled (passwordOf n) (jobOfFrame f x (switchOf c n l all).plain)) (ap (λ (x : Frame). messageFrom x bytes) reads ∙ sym framed)
-        ∙ ap (λ (x : Frame). settled (passwordOf n) (jobOfFrame x message (switchOf c n l all).plain)) reads
-        ∙ ap (λ (x : Order). settled (passwordOf n) (jobOfOrder x h.source (drop 2 message) (switchOf c n l all).plain)) (ap (λ (x : Mode). judged all x h message) (sym moded) ∙ sym judges)
+        ∙ ap (λ (x : List ℕ). settled (password_of n) (job_of_frame f x (switch_of c n l all).plain)) (ap (λ (x : Frame). message_from x bytes) reads ∙ sym framed)
+        ∙ ap (λ (x : Frame). settled (password_of n) (job_of_frame x message (switch_of c n l all).plain)) reads
+        ∙ ap (λ (x : Order). settled (password_of n) (job_of_order x h.source (drop 2 message) (switch_of c n l all).plain)) (ap (λ (x : Mode). judged all x h message) (sym moded) ∙ sym judges)
 
     pub stopped-responds :
-        (v : Verdict) (w : Password) (number : ℕ) (none : Sent) (r : Answer) → w ≡ passwordOf n → v ≡ verdictOf o w → v ≡ Stop number
-        → none ≡ tally [] → r ≡ answerWith number none all (core_of c n)
+        (v : Verdict) (w : Password) (number : ℕ) (none : Sent) (r : Answer) → w ≡ password_of n → v ≡ verdict_of o w → v ≡ Stop number
+        → none ≡ tally [] → r ≡ answer_with number none all (core_of c n)
         → Responds (receive bytes) c n l all out r c n l all out
-    stopped-responds v w number none r own judged-so stops none-sent shows =
+    stopped-responds v w number none r own judged-so stops none_sent shows =
         leaves_all _ number c n l all out none r
-        (ordered ∙ says-stopped o h.source (drop 2 message) (switchOf c n l all).plain (passwordOf n) number (ap (verdictOf o) (sym own) ∙ sym judged-so ∙ stops))
-        none-sent shows
+        (ordered ∙ says_stopped o h.source (drop 2 message) (switch_of c n l all).plain (password_of n) number (ap (verdict_of o) (sym own) ∙ sym judged-so ∙ stops))
+        none_sent shows
 
     pub granted-responds :
         (v : Verdict) (w : Password) (values : List ℕ) (size : ℕ) (hue : Colour) (c₁ n₁ all₁ out₁ c₂ n₂ : List ℕ) (sent : Sent) (r : Answer)
-        → w ≡ passwordOf n → v ≡ verdictOf o w → v ≡ Go → values ≡ drop 2 message → Sized c n
-        → Obeys (effect_of all o (core_of c n)) values h.source (replyOf o) (seenOf o (modeIn n) (passwordOf n)) c n all out size c₁ n₁ all₁ out₁
-        → hue ≡ hueBy size → LampKept (signalSet hue (lampOf c₁ n₁)) c₁ n₁ c₂ n₂ → sent ≡ lone size → r ≡ answerWith 0 sent all₁ (core_of c₂ n₂)
+        → w ≡ password_of n → v ≡ verdict_of o w → v ≡ Go → values ≡ drop 2 message → Sized c n
+        → Obeys (effect_of all o (core_of c n)) values h.source (reply_of o) (seen_of o (mode_in n) (password_of n)) c n all out size c₁ n₁ all₁ out₁
+        → hue ≡ hue_by size → LampKept (signal_set hue (lamp_of c₁ n₁)) c₁ n₁ c₂ n₂ → sent ≡ lone size → r ≡ answer_with 0 sent all₁ (core_of c₂ n₂)
         → Responds (receive bytes) c n l all out r c₂ n₂ l all₁ out₁
-    unfolding outcomeOf plainAfter core_of signalled
+    unfolding outcome_of plain_after core_of signalled
     granted-responds v w values size hue c₁ n₁ all₁ out₁ c₂ n₂ sent r own judged-so goes behind sized obeys hued lamp counted shows =
-        let w₀ = passwordOf n in
+        let w₀ = password_of n in
         let k₀ = core_of c n in
         let e = effect_of all o k₀ in
-        let rep = replyOf o in
-        let seen-so = seenOf o (modeIn n) w₀ in
+        let rep = reply_of o in
+        let seen-so = seen_of o (mode_in n) w₀ in
         let source = h.source in
-        let packets = replied all₁ seen-so source rep (percentOf e.core.dimmer.level) in
+        let packets = replied all₁ seen-so source rep (percent_of e.core.dimmer.level) in
         let fits : place ≤ length out = omega arith in
-        let sends = reply-sends all₁ seen-so source rep (percentOf e.core.dimmer.level) out out₁ size sent fits obeys.laid counted in
-        let colour : hue ≡ hueOf rep = hued ∙ hue-told all₁ seen-so source rep (percentOf e.core.dimmer.level) out out₁ size fits obeys.laid in
-        let k = signalled (hueOf rep) e.core in
-        let w' = changed (changeOf e.write values) w₀ in
-        let signal : signalSet hue (lampOf c₁ n₁) ≡ signalSet (hueOf rep) e.core.lamp = ap (λ (x : Colour). signalSet x (lampOf c₁ n₁)) colour ∙ ap (signalSet (hueOf rep)) obeys.ready.lamp in
-        let kept : CoreKept k w' c n c₂ n₂ = kept-signalled e.core w' (hueOf rep) c n c₁ n₁ c₂ n₂ (subst (λ (x : Lamp). LampKept x c₁ n₁ c₂ n₂) signal lamp) obeys.ready in
-        leaves-shown _ 0 packets k w' (paddlesOf l) c n l out sent r c₂ n₂ l all₁ out₁ sized
+        let sends = reply_sends all₁ seen-so source rep (percent_of e.core.dimmer.level) out out₁ size sent fits obeys.laid counted in
+        let colour : hue ≡ hue_of rep = hued ∙ hue_told all₁ seen-so source rep (percent_of e.core.dimmer.level) out out₁ size fits obeys.laid in
+        let k = signalled (hue_of rep) e.core in
+        let w' = changed (change_of e.write values) w₀ in
+        let signal : signal_set hue (lamp_of c₁ n₁) ≡ signal_set (hue_of rep) e.core.lamp = ap (λ (x : Colour). signal_set x (lamp_of c₁ n₁)) colour ∙ ap (signal_set (hue_of rep)) obeys.ready.lamp in
+        let kept : CoreKept k w' c n c₂ n₂ = kept_signalled e.core w' (hue_of rep) c n c₁ n₁ c₂ n₂ (subst (λ (x : Lamp). LampKept x c₁ n₁ c₂ n₂) signal lamp) obeys.ready in
+        leaves_shown _ 0 packets k w' (paddles_of l) c n l out sent r c₂ n₂ l all₁ out₁ sized
         (ordered
-        ∙ ap (λ (x : List ℕ). settled w₀ (jobOfOrder o source x (switchOf c n l all).plain)) (sym behind)
-        ∙ says-granted o source values (switchOf c n l all).plain w₀ (ap (verdictOf o) (sym own) ∙ sym judged-so ∙ goes)
+        ∙ ap (λ (x : List ℕ). settled w₀ (job_of_order o source x (switch_of c n l all).plain)) (sym behind)
+        ∙ says_granted o source values (switch_of c n l all).plain w₀ (ap (verdict_of o) (sym own) ∙ sym judged-so ∙ goes)
         ∙ rw (← obeys.registers))
-        sends.counted shows kept (sym (paddles-same l)) sends.bytes
+        sends.counted shows kept (sym (paddles_same l)) sends.bytes

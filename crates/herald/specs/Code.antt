@@ -5,21 +5,21 @@ use Rattle.units.specs.declared.Percent.{Percent}
 use Rattle.units.specs.Units.{percent}
 use Rattle.vault.specs.declared.Mode.{Mode}
 use Rattle.paddle.specs.declared.Gesture.{Gesture}
-use Rattle.places.specs.Places.{networkIn, unitIn, transmitIn}
+use Rattle.places.specs.Places.{network_in, unit_in, transmit_in}
 use Rattle.registers.specs.Registers.{valid}
 use Rattle.post.specs.declared.Note.{Note}
-use Rattle.herald.specs.Herald.{gestureMessage, announced}
-use Rattle.post.specs.Code.{note, noNote, sentOf}
+use Rattle.herald.specs.Herald.{gesture_message, announced}
+use Rattle.post.specs.Code.{note, no_note, sent_of}
 
 -- The note of a gesture, with network, source and link as the registers then stand.
 unfoldable pub note_of : List ℕ → Mode → ℕ → Gesture → Percent → Note
 note_of all mode paddle g percent =
-    if valid (transmitIn all paddle).link
-    then note (networkIn all) (unitIn all) (transmitIn all paddle).link (gestureMessage all mode paddle g percent)
-    else noNote
+    if valid (transmit_in all paddle).link
+    then note (network_in all) (unit_in all) (transmit_in all paddle).link (gesture_message all mode paddle g percent)
+    else no_note
 
 -- The packets of a gesture's note are those that the gesture announces.
 abbrev pub NoteSent : Type 0
 NoteSent =
     (all : List ℕ) (mode : Mode) (paddle : ℕ) (g : Gesture) (p : Percent)
-    → sentOf (note_of all mode paddle g p) ≡ announced all mode paddle g p
+    → sent_of (note_of all mode paddle g p) ≡ announced all mode paddle g p

@@ -6,7 +6,7 @@ use Rattle.vault.specs.declared.Mode.{Mode}
 use Rattle.vault.specs.declared.Mode.TheVariants.{Normal, Setup, Factory}
 use Rattle.paddle.specs.declared.Gesture.{Gesture}
 use Rattle.paddle.specs.declared.Gesture.TheVariants.{Nothing, Taps, Hold, Release}
-use Rattle.places.specs.Places.{transmitIn, entryIn}
+use Rattle.places.specs.Places.{transmit_in, entry_in}
 use Rattle.registers.specs.Registers.{valid}
 use Rattle.places.specs.declared.Transmit.{Transmit}
 use Rattle.places.specs.declared.Entry.{Entry}
@@ -15,29 +15,29 @@ use Rattle.post.specs.declared.Message.TheVariants.{Empty, One, Two, Three}
 use Rattle.post.specs.Post.{headed, enveloped, bytes_of, status}
 
 -- 01, Paddles, 13: the number that sends nothing.
-abbrev pub noCommand : ℕ
-noCommand = 15
+abbrev pub no_command : ℕ
+no_command = 15
 
 -- 01, Paddles, 13: the number that sends the percent.
 abbrev pub report : ℕ
 report = 14
 
 -- 01, Paddles, 12: the command number of a gesture, one for each of the four that send. That of a double is handed in.
-unfoldable pub gestureNumber : Transmit → ℕ → Gesture → ℕ
-gestureNumber t double Nothing = noCommand
-gestureNumber t double (Taps taps) = if eqb taps 1 then t.single else if eqb taps 2 then double else noCommand
-gestureNumber t double Hold = t.hold
-gestureNumber t double Release = t.release
+unfoldable pub gesture_number : Transmit → ℕ → Gesture → ℕ
+gesture_number t double Nothing = no_command
+gesture_number t double (Taps taps) = if eqb taps 1 then t.single else if eqb taps 2 then double else no_command
+gesture_number t double Hold = t.hold
+gesture_number t double Release = t.release
 
 -- 01, Paddles, 12: no gesture sends in Setup, and no double in Factory Default.
-unfoldable pub commandNumber : Mode → Transmit → Gesture → ℕ
-commandNumber Normal t g = gestureNumber t t.double g
-commandNumber Setup t g = noCommand
-commandNumber Factory t g = gestureNumber t noCommand g
+unfoldable pub command_number : Mode → Transmit → Gesture → ℕ
+command_number Normal t g = gesture_number t t.double g
+command_number Setup t g = no_command
+command_number Factory t g = gesture_number t no_command g
 
 -- 01, Paddles, 15: Goto and Fade Start, whose first argument is a level, 255 too.
-unfoldable pub takesLevel : ℕ → Bool
-takesLevel command = eqb command 0x22 || eqb command 0x23
+unfoldable pub takes_level : ℕ → Bool
+takes_level command = eqb command 0x22 || eqb command 0x23
 
 -- 01, Paddles, 14 and 15: an entry is silent if it begins with 255; else the 255s at its end are dropped, but a level.
 unfoldable pub trimmed : Entry → Message
@@ -45,23 +45,23 @@ trimmed e =
     if eqb e.command 255 then Empty
     else if not (eqb e.second 255) then Three e.command e.first e.second
     else if not (eqb e.first 255) then Two e.command e.first
-    else if takesLevel e.command then Two e.command e.first
+    else if takes_level e.command then Two e.command e.first
     else One e.command
 
 -- 01, Paddles, 13: what the low four bits of a command number stand for.
 unfoldable pub chosen : List ℕ → ℕ → Percent → Message
 chosen all number percent =
-    if eqb (number % 16) noCommand then Empty
+    if eqb (number % 16) no_command then Empty
     else if eqb (number % 16) report then status percent
-    else trimmed (entryIn all (number % 16))
+    else trimmed (entry_in all (number % 16))
 
 -- The message of a paddle's gesture, in the mode that it finds.
-unfoldable pub gestureMessage : List ℕ → Mode → ℕ → Gesture → Percent → Message
-gestureMessage all mode paddle g percent = chosen all (commandNumber mode (transmitIn all paddle) g) percent
+unfoldable pub gesture_message : List ℕ → Mode → ℕ → Gesture → Percent → Message
+gesture_message all mode paddle g percent = chosen all (command_number mode (transmit_in all paddle) g) percent
 
 -- 01, Paddles, 12: a link packet, if the component has a valid link. The mode is the one before the gesture acts, the percent the one after.
 unfoldable pub announced : List ℕ → Mode → ℕ → Gesture → Percent → List (List ℕ)
 announced all mode paddle g percent =
-    if valid (transmitIn all paddle).link
-    then enveloped (headed all true (transmitIn all paddle).link) (bytes_of (gestureMessage all mode paddle g percent))
+    if valid (transmit_in all paddle).link
+    then enveloped (headed all true (transmit_in all paddle).link) (bytes_of (gesture_message all mode paddle g percent))
     else []

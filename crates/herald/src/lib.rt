@@ -1,6 +1,7 @@
 // What a paddle's gesture sends: a link packet, noted with the registers as they stand.
+#![tactic(auto)]
 ghost use Rattle.std.specs.Prelude.{◌≡◌};
-ghost use Rattle.herald.specs.Herald.{commandNumber, gestureNumber, chosen, trimmed, takesLevel};
+ghost use Rattle.herald.specs.Herald.{command_number, gesture_number, chosen, trimmed, takes_level};
 ghost use Rattle.herald.specs.Code.{note_of};
 
 use paddle::Gesture;
@@ -42,7 +43,7 @@ pub fn announce(all: &[u8; 256], mode: Mode, paddle: u8, gesture: Gesture, perce
 
 // The command number of a gesture in a mode: none in Setup, and none for a double in Factory Default.
 fn number(mode: Mode, transmit: Transmit, gesture: Gesture) -> u8
-    ensures { result ≡ commandNumber mode transmit gesture }
+    ensures { result ≡ command_number mode transmit gesture }
 {
     match mode {
         Mode::Normal => gesture_number(transmit, transmit.double, gesture),
@@ -53,7 +54,7 @@ fn number(mode: Mode, transmit: Transmit, gesture: Gesture) -> u8
 
 // The transmit component's number for the gesture; `double` is the one for two taps.
 fn gesture_number(transmit: Transmit, double: u8, gesture: Gesture) -> u8
-    ensures { result ≡ gestureNumber transmit double gesture }
+    ensures { result ≡ gesture_number transmit double gesture }
 {
     match gesture {
         Gesture::Nothing => NONE,
@@ -108,7 +109,7 @@ fn trimmed(entry: Entry) -> Message
 }
 
 fn takes_level(command: u8) -> bool
-    ensures { result ≡ takesLevel command }
+    ensures { result ≡ takes_level command }
 {
     command == GOTO || command == FADE
 }

@@ -1,10 +1,11 @@
 // The switch for programs in C and Rust: a function for each thing that happens to it. All that it holds is the caller's own, in
 // plain numbers (crate state says which), and is lent to each of them; a slice crosses as a pointer and a length.
+#![tactic(auto)]
 ghost use Rattle.std.specs.Prelude.{◌≡◌, List, ℕ};
 ghost use Rattle.registers.specs.Registers.{image_of};
-ghost use Rattle.state.specs.State.{passwordOf};
+ghost use Rattle.state.specs.State.{password_of};
 ghost use Rattle.switch.specs.Switch.{press, release, tick, receive, restart};
-ghost use Rattle.host.specs.Host.{inFigures, Speaks, Begins};
+ghost use Rattle.host.specs.Host.{in_figures, Speaks, Begins};
 
 use answers::Answer;
 use model::PADDLES;
@@ -14,7 +15,7 @@ use state::{COUNTERS, NUMBERS};
 
 // An answer in figures: `count` packets were sent, of so many bytes each.
 #[repr(C)]
-#[derive(Drop)]
+#[derive(Clone, Copy)]
 pub struct Figures {
     pub lengths: [u8; PADDLES],
     pub count: u8,
@@ -115,13 +116,13 @@ pub extern "C" fn melszondru_parts_image(
     all: &[u8; 256],
     out: &mut [u8; 256],
 )
-    ensures { out.new ≡ image_of all.now (passwordOf numbers.now) }
+    ensures { out.new ≡ image_of all.now (password_of numbers.now) }
 {
     wakes::image(numbers, all, out)
 }
 
 fn figures_of(answer: Answer) -> Figures
-    ensures { result ≡ inFigures answer }
+    ensures { result ≡ in_figures answer }
 {
     let sent = answer.sent;
     let lengths = sent.lengths;

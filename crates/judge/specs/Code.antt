@@ -9,11 +9,11 @@ use Rattle.vault.specs.declared.Mode.TheVariants.{Normal}
 use Rattle.packet.specs.declared.Header.{Header}
 
 -- The number of an order: that of the refusal, or 0.
-abbrev pub numberOfOrder : Order → ℕ
-numberOfOrder (order.Refused n) = n
-numberOfOrder (order.Guess guess) = 0
-numberOfOrder (order.Read first count) = 0
-numberOfOrder (order.Work w) = 0
+abbrev pub number_of_order : Order → ℕ
+number_of_order (order.Refused n) = n
+number_of_order (order.Guess guess) = 0
+number_of_order (order.Read first count) = 0
+number_of_order (order.Work w) = 0
 
 -- What holds where an order is answered: its row of 01's table of numbers, or what its command asks of the packet.
 abbrev pub Judged : Order → List ℕ → Mode → Header → List ℕ → Type 0
@@ -30,7 +30,7 @@ JudgedExactly = (o : Order) (all : List ℕ) (mode : Mode) (h : Header) (m : Lis
 abbrev pub NumberExactly : Type 0
 NumberExactly =
     (n : ℕ) (all : List ℕ) (mode : Mode) (h : Header) (m : List ℕ) → (n ≡ 0 → ⊥)
-    → (numberOfOrder (judged all mode h m) ≡ n) ↔ Refusal all mode h m n
+    → (number_of_order (judged all mode h m) ≡ n) ↔ Refusal all mode h m n
 
 -- Only 9 to 13 have a row here.
 abbrev pub OnlyNineTo13 : Type 0
@@ -39,19 +39,19 @@ OnlyNineTo13 = (n : ℕ) (all : List ℕ) (mode : Mode) (h : Header) (m : List �
 -- Examples of the order of the checks, for any packet that passes 9 and 10.
 pub record Examples (all : List ℕ) (mode : Mode) (h : Header) : Type 0 where
   -- A Get of no registers, or of 17, is 12: by link, to destination 0 and from source 0 too.
-  pub count-0 : (first : ℕ) → judged all mode h (0x10 ∷ first ∷ 0 ∷ []) ≡ order.Refused 12
-  pub count-17 : (first : ℕ) → judged all mode h (0x10 ∷ first ∷ 17 ∷ []) ≡ order.Refused 12
+  pub count_0 : (first : ℕ) → judged all mode h (0x10 ∷ first ∷ 0 ∷ []) ≡ order.Refused 12
+  pub count_17 : (first : ℕ) → judged all mode h (0x10 ∷ first ∷ 17 ∷ []) ≡ order.Refused 12
   -- A Set past 0xFF is 12 in every mode.
-  pub past-0xFF : (a b : ℕ) → judged all mode h (0x11 ∷ 0xFF ∷ a ∷ b ∷ []) ≡ order.Refused 12
+  pub past_0x_f_f : (a b : ℕ) → judged all mode h (0x11 ∷ 0xFF ∷ a ∷ b ∷ []) ≡ order.Refused 12
   -- A direct Activate with an argument is 12, without one 13.
-  pub with-argument : (a : ℕ) → judged all mode h (0x20 ∷ a ∷ []) ≡ order.Refused 12
+  pub with_argument : (a : ℕ) → judged all mode h (0x20 ∷ a ∷ []) ≡ order.Refused 12
   pub without : h.link ≡ false → judged all mode h (0x20 ∷ []) ≡ order.Refused 13
   -- Any guess outside Normal, or to destination 0, is 13.
-  pub outside-normal : (mode ≡ Normal → ⊥) → (a b : ℕ) → judged all mode h (0x03 ∷ a ∷ b ∷ []) ≡ order.Refused 13
-  pub to-everyone : h.destination ≡ 0 → (a b : ℕ) → judged all mode h (0x03 ∷ a ∷ b ∷ []) ≡ order.Refused 13
+  pub outside_normal : (mode ≡ Normal → ⊥) → (a b : ℕ) → judged all mode h (0x03 ∷ a ∷ b ∷ []) ≡ order.Refused 13
+  pub to_everyone : h.destination ≡ 0 → (a b : ℕ) → judged all mode h (0x03 ∷ a ∷ b ∷ []) ≡ order.Refused 13
   -- A received reply is 11.
-  pub status-reply : (rest : List ℕ) → judged all mode h (0x86 ∷ rest) ≡ order.Refused 11
-  pub registers-reply : (rest : List ℕ) → judged all mode h (0x90 ∷ rest) ≡ order.Refused 11
+  pub status_reply : (rest : List ℕ) → judged all mode h (0x86 ∷ rest) ≡ order.Refused 11
+  pub registers_reply : (rest : List ℕ) → judged all mode h (0x90 ∷ rest) ≡ order.Refused 11
 
 -- The examples hold for every such packet.
 abbrev pub ChecksInOrder : Type 0

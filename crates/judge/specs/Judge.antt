@@ -3,13 +3,13 @@ use Rattle.std.specs.Prelude.{not, List, ℕ}
 use Rattle.words.specs.Words.{if◌then◌else◌}
 use Rattle.vault.specs.Vault.{password}
 use Rattle.vault.specs.declared.Mode.{Mode}
-use Rattle.levels.specs.Levels.{optionsOf}
+use Rattle.levels.specs.Levels.{options_of}
 use Rattle.packet.specs.declared.Header.{Header}
-use Rattle.places.specs.Places.{dimmingIn}
-use Rattle.verbs.specs.Verbs.{argument, listed, optional, suits, verbOf}
+use Rattle.places.specs.Places.{dimming_in}
+use Rattle.verbs.specs.Verbs.{argument, listed, optional, suits, verb_of}
 use Rattle.verbs.specs.declared.Verb.{Verb}
 use Rattle.verbs.specs.declared.Verb.TheVariants.{Open, Close, Get, Set, Activate, Deactivate, Goto, FadeStart, FadeStop, Blink, Report, Store, Unlisted}
-use Rattle.reach.specs.Reach.{componentOf, heard, permitted, reached, target_of}
+use Rattle.reach.specs.Reach.{component_of, heard, permitted, reached, target_of}
 use Rattle.reach.specs.declared.Target.{Target}
 use Rattle.judge.specs.declared.Order.{Order}
 use Rattle.judge.specs.declared.Order.TheVariants as order
@@ -32,14 +32,14 @@ ordered Open target message = order.Guess (password (argument message 1) (argume
 ordered Close target message = order.Work work.Close
 ordered Get target message = order.Read (argument message 1) (argument message 2)
 ordered Set target message = order.Work (work.Set (argument message 1))
-ordered Activate target message = driving (drive.Activate (componentOf target))
-ordered Deactivate target message = driving (drive.Deactivate (componentOf target))
+ordered Activate target message = driving (drive.Activate (component_of target))
+ordered Deactivate target message = driving (drive.Deactivate (component_of target))
 ordered Goto target message = driving (going message)
 ordered FadeStart target message = driving (going message)
 ordered FadeStop target message = driving drive.Stop
 ordered Blink target message = driving (drive.Blink (optional message 1 0))
 ordered Report target message = order.Work work.Report
-ordered Store target message = order.Work (work.Store (componentOf target))
+ordered Store target message = order.Work (work.Store (component_of target))
 ordered Unlisted target message = order.Refused 11
 
 -- 01, Answer numbers, 1: the checks 11 to 13, rising, of a command from this source for this target. 14 comes with the password.
@@ -47,7 +47,7 @@ unfoldable pub commanded : List ℕ → Mode → ℕ → Target → Verb → Lis
 commanded all mode source target verb message =
     if not (listed verb) then order.Refused 11
     else if not (suits verb message) then order.Refused 12
-    else if not (permitted verb target mode source (optionsOf (dimmingIn all)).capable) then order.Refused 13
+    else if not (permitted verb target mode source (options_of (dimming_in all)).capable) then order.Refused 13
     else ordered verb target message
 
 -- 01, Answer numbers, 1: the checks 9 to 13, rising: 9 and 10 are about the packet, the rest about its command.
@@ -56,4 +56,4 @@ judged all mode header message =
     let target = target_of all header in
     if not (heard all header.network) then order.Refused 9
     else if not (reached target) then order.Refused 10
-    else commanded all mode header.source target (verbOf (argument message 0)) message
+    else commanded all mode header.source target (verb_of (argument message 0)) message

@@ -4,7 +4,7 @@ use Rattle.std.specs.Prelude.{false, List, [], ◌∷◌, ◌⊎◌, ◌≡◌, 
 use Rattle.vault.specs.declared.Mode.{Mode}
 use Rattle.vault.specs.declared.Mode.TheVariants.{Normal, Setup}
 use Rattle.packet.specs.declared.Header.{Header}
-use Rattle.verbs.specs.Verbs.{argument, verbOf}
+use Rattle.verbs.specs.Verbs.{argument, verb_of}
 use Rattle.verbs.specs.Promises.{commands, NoneOf, Range, Suits}
 use Rattle.reach.specs.Promises.{AskedToReply, ByLink, Capable, Permitted, ToUs, Unheard, Unreached}
 use Rattle.judge.specs.declared.Order.{Order}
@@ -22,15 +22,15 @@ Listed all h m = Reached all h × (NoneOf commands (argument m 0) → ⊥)
 
 -- It passes 9 to 12.
 abbrev pub Suited : List ℕ → Header → List ℕ → Type 0
-Suited all h m = Listed all h m × Suits (verbOf (argument m 0)) m
+Suited all h m = Listed all h m × Suits (verb_of (argument m 0)) m
 
 -- 01, Answer numbers, rows 9 to 13: the row's condition and, since the checks rise (01, Answer numbers, 1), none of an earlier row.
 pub data Refusal (all : List ℕ) (mode : Mode) (h : Header) (m : List ℕ) : ℕ → Type 0 where
-  wrong-network : Unheard all h → Refusal all mode h m 9
+  wrong_network : Unheard all h → Refusal all mode h m 9
   not_ours : (Unheard all h → ⊥) → Unreached all h → Refusal all mode h m 10
   not_listed : Reached all h → NoneOf commands (argument m 0) → Refusal all mode h m 11
-  wrong-arguments : Listed all h m → (Suits (verbOf (argument m 0)) m → ⊥) → Refusal all mode h m 12
-  not-permitted : Suited all h m → (Permitted (verbOf (argument m 0)) all mode h → ⊥) → Refusal all mode h m 13
+  wrong_arguments : Listed all h m → (Suits (verb_of (argument m 0)) m → ⊥) → Refusal all mode h m 12
+  not_permitted : Suited all h m → (Permitted (verb_of (argument m 0)) all mode h → ⊥) → Refusal all mode h m 13
 
 -- 01, Commands, 2: a command's level with its rate, or without: then the rate is 255.
 abbrev pub Level : ℕ → ℕ → ℕ → List ℕ → Type 0

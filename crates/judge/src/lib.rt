@@ -1,5 +1,6 @@
 // What a packet asks for: the checks 9 to 13 in their order, and the command with its arguments taken apart. The
 // switch's own password does not come here.
+#![tactic(auto)]
 ghost use Rattle.std.specs.Prelude.{◌≡◌};
 ghost use Rattle.judge.specs.Judge.{driving, going, ordered, commanded, judged};
 
@@ -11,7 +12,7 @@ use verbs::{Verb, argument, optional, verb_of};
 
 // What is to be done: the refusal's number, a guess to be compared with the password (Start Setup), a range of registers to be read (Get
 // Registers), or work that the password has no part in.
-#[derive(Drop)]
+#[derive(Clone, Copy)]
 pub enum Order {
     Refused(u8),
     Guess(Password),
@@ -21,7 +22,7 @@ pub enum Order {
 
 // Report answers the level, Close is Stop Setup, Set is Set Registers (its values stand in the message from byte 2 on), Store is Store
 // Preset of a component, Drive is for the dimmer.
-#[derive(Drop)]
+#[derive(Clone, Copy)]
 pub enum Work {
     Report,
     Close,
@@ -31,7 +32,7 @@ pub enum Work {
 }
 
 // A missing rate is 255, a missing value 0.
-#[derive(Drop)]
+#[derive(Clone, Copy)]
 pub enum Drive {
     Activate(u8),
     Deactivate(u8),

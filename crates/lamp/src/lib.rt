@@ -1,7 +1,8 @@
 // The lamp in the paddle and the flash of the output: what shows, by the timers that run, the mode and the level.
+#![tactic(auto)]
 ghost use Rattle.std.specs.Prelude.{◌≡◌};
-ghost use Rattle.lamp.specs.Lamp.{freshLamp, signalSet, entered, nextLamp, colour, output};
-ghost use Rattle.lamp.specs.Lamp.{modeColour, versionColour, bit_of, bitColour, byHalves, normalColour, diagnostic, diagnosed, byLevel, colourOfBits, inverted};
+ghost use Rattle.lamp.specs.Lamp.{fresh_lamp, signal_set, entered, next_lamp, colour, output};
+ghost use Rattle.lamp.specs.Lamp.{mode_colour, version_colour, bit_of, bit_colour, by_halves, normal_colour, diagnostic, diagnosed, by_level, colour_of_bits, inverted};
 
 use units::Step;
 use vault::Mode;
@@ -17,7 +18,7 @@ const BLINK: u16 = 30;
 
 const FLASH: u16 = 120;
 
-#[derive(Drop)]
+#[derive(Clone, Copy)]
 pub enum Colour {
     Black,
     Red,
@@ -27,7 +28,7 @@ pub enum Colour {
 
 // `version`, `blink`, `flash`: ticks left of the version blinks, of the signal and of the flash. `phase`: the metronome of the
 // mode's blinks. `hue`: the signal's colour.
-#[derive(Drop)]
+#[derive(Clone, Copy)]
 pub struct Lamp {
     pub version: u16,
     pub phase: u16,
@@ -39,7 +40,7 @@ pub struct Lamp {
 impl Lamp {
     // As after a start or a restart.
     pub fn fresh() -> Lamp
-        ensures { result ≡ freshLamp }
+        ensures { result ≡ fresh_lamp }
     {
         Lamp {
             version: VERSION,
@@ -52,7 +53,7 @@ impl Lamp {
 
     // A packet was sent or received: a signal begins and takes the place of an older one.
     pub fn blinked(self, hue: Colour) -> Lamp
-        ensures { result ≡ signalSet hue self }
+        ensures { result ≡ signal_set hue self }
     {
         Lamp {
             version: self.version,
@@ -73,7 +74,7 @@ impl Lamp {
     }
 
     pub fn tick(mut self) -> Lamp
-        ensures { result ≡ nextLamp self }
+        ensures { result ≡ next_lamp self }
     {
         self.version = timers::run(self.version);
         self.phase = timers::turn(TURN, self.phase);
@@ -104,7 +105,7 @@ impl Lamp {
     }
 
     fn mode_colour(self, mode: Mode, options: u8, level: Step) -> Colour
-        ensures { result ≡ modeColour mode self options level }
+        ensures { result ≡ mode_colour mode self options level }
     {
         match mode {
             Mode::Setup => blinking(Colour::Green, self.phase),
@@ -114,7 +115,7 @@ impl Lamp {
     }
 
     fn normal_colour(self, options: u8, level: Step) -> Colour
-        ensures { result ≡ normalColour self options level }
+        ensures { result ≡ normal_colour self options level }
     {
         if diagnostic(options) {
             return self.diagnosed();
@@ -136,7 +137,7 @@ impl Lamp {
 
 // The version blinks with `left` ticks to come after this one, high bit first.
 fn version_colour(digit: u8, left: u16) -> Colour
-    ensures { result ≡ versionColour digit left }
+    ensures { result ≡ version_colour digit left }
 {
     let number = left / TURN;
     blinking(bit_colour(bit(digit, number)), left % TURN)
@@ -153,7 +154,7 @@ fn bit(digit: u8, number: u16) -> u8
 }
 
 fn bit_colour(one: u8) -> Colour
-    ensures { result ≡ bitColour one }
+    ensures { result ≡ bit_colour one }
 {
     if one == 1 {
         return Colour::Green;
@@ -163,7 +164,7 @@ fn bit_colour(one: u8) -> Colour
 
 // The colour and then black, by the ticks that are left of the blink after this one.
 fn blinking(hue: Colour, phase: u16) -> Colour
-    ensures { result ≡ byHalves hue phase }
+    ensures { result ≡ by_halves hue phase }
 {
     if HALF <= phase {
         return hue;
@@ -179,7 +180,7 @@ fn diagnostic(options: u8) -> bool
 
 // The lowest two bits are for off, the next two for on.
 fn by_level(options: u8, level: Step) -> Colour
-    ensures { result ≡ byLevel options level }
+    ensures { result ≡ by_level options level }
 {
     if level.0 == 0 {
         return colour_of(options & 3);
@@ -188,7 +189,7 @@ fn by_level(options: u8, level: Step) -> Colour
 }
 
 fn colour_of(code: u8) -> Colour
-    ensures { result ≡ colourOfBits code }
+    ensures { result ≡ colour_of_bits code }
 {
     match code {
         0 => Colour::Black,

@@ -13,32 +13,32 @@ use Rattle.vault.specs.declared.Mode.TheVariants.{Normal, Setup, Factory}
 use Rattle.model.specs.Model.{place}
 use Rattle.outbox.specs.declared.Sent.{Sent}
 use Rattle.answers.specs.declared.Answer.{Answer}
-use Rattle.page.specs.Page.{word, digitsUpTo, digits, hexDigit, hexOf, spaced, listed, line, run}
-use Rattle.ledger.specs.Writing.{colourWord, modeWord, state, more, joined, packets, outside, fill, untouched, spilt, counts, row, started, answered}
-use Rattle.page.proofs.Laws.{digits-length, hex-length}
+use Rattle.page.specs.Page.{word, digits_up_to, digits, hex_digit, hex_of, spaced, listed, line, run}
+use Rattle.ledger.specs.Writing.{colour_word, mode_word, state, more, joined, packets, outside, fill, untouched, spilt, counts, row, started, answered}
+use Rattle.page.proofs.Laws.{digits_length, hex_length}
 
 -- The longest words.
-colour-length : (colour : Colour) → length (colourWord colour) ≤ 6
-colour-length Black = omega arith
-colour-length Red = omega arith
-colour-length Green = omega arith
-colour-length Orange = omega arith
+colour_length : (colour : Colour) → length (colour_word colour) ≤ 6
+colour_length Black = omega arith
+colour_length Red = omega arith
+colour_length Green = omega arith
+colour_length Orange = omega arith
 
-mode-length : (mode : Mode) → length (modeWord mode) ≤ 7
-mode-length Normal = omega arith
-mode-length Setup = omega arith
-mode-length Factory = omega arith
+mode_length : (mode : Mode) → length (mode_word mode) ≤ 7
+mode_length Normal = omega arith
+mode_length Setup = omega arith
+mode_length Factory = omega arith
 
 -- A number of a byte behind a space.
-number-length : (n : ℕ) → n < 256 → length (spaced (digits n)) ≤ 4
+number_length : (n : ℕ) → n < 256 → length (spaced (digits n)) ≤ 4
 unfolding spaced
-number-length n h = omega (arith, digits-length 2 n (omega arith))
+number_length n h = omega (arith, digits_length 2 n (omega arith))
 
-state-length : (a : Answer) → a.level.0 < 256 → a.output.0 < 256 → length (state a) ≤ 23
+state_length : (a : Answer) → a.level.0 < 256 → a.output.0 < 256 → length (state a) ≤ 23
 unfolding state spaced
-state-length a level output =
+state_length a level output =
     simp length-append
-    (omega (arith, digits-length 2 a.level.0 (omega arith), digits-length 2 a.output.0 (omega arith), colour-length a.colour, mode-length a.mode))
+    (omega (arith, digits_length 2 a.level.0 (omega arith), digits_length 2 a.output.0 (omega arith), colour_length a.colour, mode_length a.mode))
 
 -- No packet is longer than its place.
 abbrev pub Fit : List ℕ → Type 0
@@ -50,60 +50,60 @@ front_fits zero sizes fit = tt
 front_fits (suc n) [] fit = tt
 front_fits (suc n) (size ∷ sizes) (least, fit) = (least, front_fits n sizes fit)
 
-listed-length : (sizes : List ℕ) → Fit sizes → length (listed sizes) ≤ 4 * length sizes
+listed_length : (sizes : List ℕ) → Fit sizes → length (listed sizes) ≤ 4 * length sizes
 unfolding listed
-listed-length [] fit = omega arith
-listed-length (size ∷ sizes) (least, fit) =
-    simp length-append (omega (arith, number-length size (omega arith), listed-length sizes fit))
+listed_length [] fit = omega arith
+listed_length (size ∷ sizes) (least, fit) =
+    simp length-append (omega (arith, number_length size (omega arith), listed_length sizes fit))
 
-counts-length : (number : ℕ) (sent : Sent) → number < 256 → sent.count < 256 → Fit sent.lengths
+counts_length : (number : ℕ) (sent : Sent) → number < 256 → sent.count < 256 → Fit sent.lengths
     → length (counts number sent) ≤ 7 + 4 * length sent.lengths
 unfolding counts
-counts-length number sent h count fit =
+counts_length number sent h count fit =
     simp length-append
-    (omega (arith, digits-length 2 number (omega arith), number-length sent.count count, listed-length sent.lengths fit))
+    (omega (arith, digits_length 2 number (omega arith), number_length sent.count count, listed_length sent.lengths fit))
 
-packet-length : (size : ℕ) (bytes : List ℕ) → length (hexOf (take size bytes)) ≤ 2 * size
-packet-length size bytes = rw (hex-length, length-take) (omega arith)
+packet_length : (size : ℕ) (bytes : List ℕ) → length (hex_of (take size bytes)) ≤ 2 * size
+packet_length size bytes = rw (hex_length, length-take) (omega arith)
 
-more-length : (sizes out : List ℕ) → Fit sizes → length (more sizes out) ≤ (1 + 2 * place) * length sizes
+more_length : (sizes out : List ℕ) → Fit sizes → length (more sizes out) ≤ (1 + 2 * place) * length sizes
 unfolding more
-more-length [] out fit = omega arith
-more-length (size ∷ sizes) out (least, fit) =
-    simp length-append (omega (arith, packet-length size out, more-length sizes (drop place out) fit))
+more_length [] out fit = omega arith
+more_length (size ∷ sizes) out (least, fit) =
+    simp length-append (omega (arith, packet_length size out, more_length sizes (drop place out) fit))
 
 joined_length : (sizes out : List ℕ) → Fit sizes → length (joined sizes out) ≤ 1 + (1 + 2 * place) * length sizes
 unfolding joined
 joined_length [] out fit = omega arith
 joined_length (size ∷ sizes) out (least, fit) =
-    simp length-append (omega (arith, packet-length size out, more-length sizes (drop place out) fit))
+    simp length-append (omega (arith, packet_length size out, more_length sizes (drop place out) fit))
 
-packets-length : (sent : Sent) (out : List ℕ) → Fit sent.lengths → length (packets sent out) ≤ 1 + (1 + 2 * place) * length sent.lengths
+packets_length : (sent : Sent) (out : List ℕ) → Fit sent.lengths → length (packets sent out) ≤ 1 + (1 + 2 * place) * length sent.lengths
 unfolding packets
-packets-length sent out fit =
+packets_length sent out fit =
     omega (arith, length-take sent.count sent.lengths, joined_length (take sent.count sent.lengths) out (front_fits sent.count sent.lengths fit))
 
-spilt-length : (sent : Sent) (out : List ℕ) → length (spilt sent out) ≤ 6
+spilt_length : (sent : Sent) (out : List ℕ) → length (spilt sent out) ≤ 6
 unfolding spilt
-spilt-length sent out = both (λ (text : List ℕ). length text ≤ 6) (untouched (outside sent.lengths out)) (omega arith) (omega arith)
+spilt_length sent out = both (λ (text : List ℕ). length text ≤ 6) (untouched (outside sent.lengths out)) (omega arith) (omega arith)
 
 -- The room that a row takes: at most 38 bytes, and for each place a length, a comma and a packet in hex.
-pub row-length : (a : Answer) (out : List ℕ) → a.number < 256 → a.sent.count < 256 → Fit a.sent.lengths
+pub row_length : (a : Answer) (out : List ℕ) → a.number < 256 → a.sent.count < 256 → Fit a.sent.lengths
     → a.level.0 < 256
     → a.output.0 < 256
     → length (row a out) ≤ 38 + (5 + 2 * place) * length a.sent.lengths
 unfolding row spaced
-row-length a out number count fit level output =
+row_length a out number count fit level output =
     simp length-append
-    (omega (arith, counts-length a.number a.sent number count fit, state-length a level output, packets-length a.sent out fit, spilt-length a.sent out))
+    (omega (arith, counts_length a.number a.sent number count fit, state_length a level output, packets_length a.sent out fit, spilt_length a.sent out))
 
 -- Worked lines: a start that is refused, a press that sends two packets, and a run of an hour of a row that spilt.
 refused : (a : Answer) → a.number ≡ 1 → started a ≡ word "i 1\n"
-unfolding started line digits digitsUpTo
+unfolding started line digits digits_up_to
 refused a h = rw h
 
-abbrev twoSent : Answer
-twoSent =
+abbrev two_sent : Answer
+two_sent =
     record {
       number = 0;
       sent = record { lengths = 2 ∷ 1 ∷ []; count = 2 };
@@ -117,10 +117,10 @@ twoSent =
 abbrev buffer : ℕ → ℕ → List ℕ
 buffer a b = 0x0A ∷ 0xFF ∷ a ∷ replicate (place - 3) fill ++ 0x80 ∷ b ∷ replicate (place - 2) fill
 
-pressed : answered (code "p") twoSent (buffer 0xAA 0xAA) ≡ word "p 0 2 2 1 200 0 orange setup 0aff,80\n"
-unfolding line row counts listed digits digitsUpTo spaced state packets joined more hexOf hexDigit spilt outside untouched
+pressed : answered (code "p") two_sent (buffer 0xAA 0xAA) ≡ word "p 0 2 2 1 200 0 orange setup 0aff,80\n"
+unfolding line row counts listed digits digits_up_to spaced state packets joined more hex_of hex_digit spilt outside untouched
 pressed = refl
 
-hour : run 216000 (row twoSent (buffer 0xAA 0)) ≡ word "t*216000 0 2 2 1 200 0 orange setup 0aff,80 spilt\n"
-unfolding run row counts listed digits digitsUpTo spaced state packets joined more hexOf hexDigit spilt outside untouched
+hour : run 216000 (row two_sent (buffer 0xAA 0)) ≡ word "t*216000 0 2 2 1 200 0 orange setup 0aff,80 spilt\n"
+unfolding run row counts listed digits digits_up_to spaced state packets joined more hex_of hex_digit spilt outside untouched
 hour = refl

@@ -9,36 +9,36 @@ use Rattle.vault.specs.declared.Mode.TheVariants.{Normal, Setup, Factory}
 use Rattle.model.specs.Model.{place}
 use Rattle.outbox.specs.declared.Sent.{Sent}
 use Rattle.answers.specs.declared.Answer.{Answer}
-use Rattle.page.specs.Page.{word, digits, hexOf, spaced, listed, line}
+use Rattle.page.specs.Page.{word, digits, hex_of, spaced, listed, line}
 
 -- The word for a colour.
-abbrev pub colourWord : Colour → List ℕ
-colourWord Black = word "black"
-colourWord Red = word "red"
-colourWord Green = word "green"
-colourWord Orange = word "orange"
+abbrev pub colour_word : Colour → List ℕ
+colour_word Black = word "black"
+colour_word Red = word "red"
+colour_word Green = word "green"
+colour_word Orange = word "orange"
 
 -- The word for a mode.
-abbrev pub modeWord : Mode → List ℕ
-modeWord Normal = word "normal"
-modeWord Setup = word "setup"
-modeWord Factory = word "factory"
+abbrev pub mode_word : Mode → List ℕ
+mode_word Normal = word "normal"
+mode_word Setup = word "setup"
+mode_word Factory = word "factory"
 
 -- LEVEL OUTPUT COLOUR MODE: what is shown of the switch, levels in steps.
 unfoldable pub state : Answer → List ℕ
 state a =
     spaced (digits a.level.0)
-    ++ (spaced (digits a.output.0) ++ (spaced (colourWord a.colour) ++ spaced (modeWord a.mode)))
+    ++ (spaced (digits a.output.0) ++ (spaced (colour_word a.colour) ++ spaced (mode_word a.mode)))
 
 -- Packets in hex, a comma before each: their lengths, and the buffer from the place of the first of them on.
 unfoldable pub more : List ℕ → List ℕ → List ℕ
 more [] out = []
-more (size ∷ sizes) out = word "," ++ (hexOf (take size out) ++ more sizes (drop place out))
+more (size ∷ sizes) out = word "," ++ (hex_of (take size out) ++ more sizes (drop place out))
 
 -- Packets in hex with a comma between them, or a dash where there are none.
 unfoldable pub joined : List ℕ → List ℕ → List ℕ
 joined [] out = word "-"
-joined (size ∷ sizes) out = hexOf (take size out) ++ more sizes (drop place out)
+joined (size ∷ sizes) out = hex_of (take size out) ++ more sizes (drop place out)
 
 -- SENT: as many packets as were sent, each in its place.
 unfoldable pub packets : Sent → List ℕ → List ℕ

@@ -1,8 +1,9 @@
 // What is written of a start and of an event, on a page.
+#![tactic(auto)]
 ghost use Rattle.std.specs.Prelude.{◌≡◌, ◌≤◌, length};
-ghost use Rattle.model.specs.Model.{paddleCount};
+ghost use Rattle.model.specs.Model.{paddle_count};
 ghost use Rattle.page.specs.Page.{page_of, puts, spaced};
-ghost use Rattle.ledger.specs.Writing.{colourWord, modeWord, state, joined, packets, outside, untouched, spilt, counts, row, started, answered};
+ghost use Rattle.ledger.specs.Writing.{colour_word, mode_word, state, joined, packets, outside, untouched, spilt, counts, row, started, answered};
 
 use answers::Answer;
 use lamp::Colour;
@@ -72,7 +73,7 @@ fn state(page: &mut [u8], at: usize, answer: Answer) -> usize
 }
 
 fn colour_word(page: &mut [u8], at: usize, colour: Colour) -> usize
-    ensures { page_of page.new result ≡ puts (spaced (colourWord colour)) (page_of page.old at) }
+    ensures { page_of page.new result ≡ puts (spaced (colour_word colour)) (page_of page.old at) }
 {
     match colour {
         Colour::Black => text(page, at, b" black"),
@@ -83,7 +84,7 @@ fn colour_word(page: &mut [u8], at: usize, colour: Colour) -> usize
 }
 
 fn mode_word(page: &mut [u8], at: usize, mode: Mode) -> usize
-    ensures { page_of page.new result ≡ puts (spaced (modeWord mode)) (page_of page.old at) }
+    ensures { page_of page.new result ≡ puts (spaced (mode_word mode)) (page_of page.old at) }
 {
     match mode {
         Mode::Normal => text(page, at, b" normal"),
@@ -102,7 +103,7 @@ fn packets(page: &mut [u8], at: usize, sent: Sent, out: &[u8]) -> usize
 
 // The packets that lie in the buffer, each in its place, with a comma between them.
 fn joined(page: &mut [u8], at: usize, sizes: &[u8], out: &[u8]) -> usize
-    requires { length sizes.now ≤ paddleCount }
+    requires { length sizes.now ≤ paddle_count }
     ensures { page_of page.new result ≡ puts (joined sizes.now out.now) (page_of page.old at) }
 {
     if sizes.len() == 0 {

@@ -1,11 +1,12 @@
 // What the bytes that set a level stand for: the options, a rate's ticks, the target, what is remembered of it, and a Blink's value.
+#![tactic(auto)]
 ghost use Rattle.std.specs.Prelude.{◌≡◌};
-ghost use Rattle.levels.specs.Levels.{optionsOf, ticksPerStep, wanted, allowed, remembered, rateOf, flipTicks};
+ghost use Rattle.levels.specs.Levels.{options_of, ticks_per_step, wanted, allowed, remembered, rate_of, flip_ticks};
 
 use units::{Percent, Step};
 
 // Register 0x8D: what holds when a level is set.
-#[derive(Drop)]
+#[derive(Clone, Copy)]
 pub struct Options {
     pub rate: u8,
     pub capable: bool,
@@ -19,7 +20,7 @@ const TICKS: [u16; 16] = [
 impl Options {
     // The low four bits are the default rate; the next says whether the load can be dimmed.
     pub fn of(byte: u8) -> Options
-        ensures { result ≡ optionsOf byte }
+        ensures { result ≡ options_of byte }
     {
         let rate = byte & 15;
         let capable = (byte >> 4) & 1;
@@ -31,7 +32,7 @@ impl Options {
 
     // A rate past 15 is the default one; a load that cannot be dimmed has rate 0 alone.
     pub fn rate(self, asked: u8) -> u8
-        ensures { result ≡ rateOf self asked }
+        ensures { result ≡ rate_of self asked }
     {
         if self.capable {
             if 15 < asked {
@@ -45,7 +46,7 @@ impl Options {
 
 // The ticks of one step at a rate; past 15 they are 0.
 pub fn ticks(rate: u8) -> u16
-    ensures { result ≡ ticksPerStep rate }
+    ensures { result ≡ ticks_per_step rate }
 {
     if 15 < rate {
         return 0;
@@ -87,7 +88,7 @@ pub fn remembered(step: Step, last: Step) -> Step
 
 // The ticks from one flip of a Blink to the next.
 pub fn blink_ticks(value: u8) -> u16
-    ensures { result ≡ flipTicks value }
+    ensures { result ≡ flip_ticks value }
 {
     if value == 0 {
         return 120;

@@ -24,8 +24,8 @@ abbrev pub between : ℕ → ℕ → ℕ → Bool
 between first byte last = leb first byte && ltb byte (last + 1)
 
 -- What a digit stands for, 0 to 9, A to F and a to f; 255 for any other byte.
-unfoldable pub digitOf : ℕ → ℕ
-digitOf byte =
+unfoldable pub digit_of : ℕ → ℕ
+digit_of byte =
     if between 0x30 byte 0x39 then byte - 0x30
     else if between 0x41 byte 0x46 then byte - 0x41 + 10
     else if between 0x61 byte 0x66 then byte - 0x61 + 10
@@ -34,12 +34,12 @@ digitOf byte =
 -- Every byte is a digit to the base.
 unfoldable pub digits : ℕ → List ℕ → Bool
 digits base [] = true
-digits base (byte ∷ rest) = ltb (digitOf byte) base && digits base rest
+digits base (byte ∷ rest) = ltb (digit_of byte) base && digits base rest
 
 -- The value of decimal digits behind others that come to `before`: each digit makes it ten times as much and itself more.
 unfoldable pub value : ℕ → List ℕ → ℕ
 value before [] = before
-value before (byte ∷ rest) = value (10 * before + digitOf byte) rest
+value before (byte ∷ rest) = value (10 * before + digit_of byte) rest
 
 -- A number is read up to its limit.
 unfoldable pub within : ℕ → ℕ → Number
@@ -59,10 +59,10 @@ hex room text =
     && (eqb (length text % 2) 0 && (leb (length text / 2) room && digits 16 text))
 
 -- The bytes that its pairs stand for, the high digit first.
-unfoldable pub hexOf : List ℕ → List ℕ
-hexOf [] = []
-hexOf (high ∷ []) = []
-hexOf (high ∷ low ∷ rest) = (16 * digitOf high + digitOf low) ∷ hexOf rest
+unfoldable pub hex_of : List ℕ → List ℕ
+hex_of [] = []
+hex_of (high ∷ []) = []
+hex_of (high ∷ low ∷ rest) = (16 * digit_of high + digit_of low) ∷ hex_of rest
 
 -- `i` (0x69): an image in hex.
 unfoldable pub image_of : ℕ → List ℕ → Line
@@ -73,16 +73,16 @@ unfoldable pub dash : List ℕ → Bool
 dash text = eqb (length text) 1 && eqb (get_or text 0 0) 0x2D
 
 -- `k` (0x6B): a packet of 1 to 256 bytes in hex, or a dash for the empty one.
-unfoldable pub packetOf : ℕ → List ℕ → Line
-packetOf room argument =
+unfoldable pub packet_of : ℕ → List ℕ → Line
+packet_of room argument =
     if dash argument then Packet 0
     else if not (hex room argument) then Unread
     else if ltb 256 (length argument / 2) then Unread
     else Packet (length argument / 2)
 
 -- The range of a letter's number: `b` (0x62), `t` (0x74), and the contacts of `p` and `r`.
-unfoldable pub limitOf : ℕ → ℕ
-limitOf letter =
+unfoldable pub limit_of : ℕ → ℕ
+limit_of letter =
     if eqb letter 0x62 then 4096
     else if eqb letter 0x74 then 4294967295
     else 255
@@ -99,13 +99,13 @@ numbered letter (Is n) =
 
 -- The number is read within its letter's range.
 unfoldable pub counted : ℕ → List ℕ → Line
-counted letter argument = numbered letter (number_of (limitOf letter) argument)
+counted letter argument = numbered letter (number_of (limit_of letter) argument)
 
 -- A letter and what stands behind its space.
 unfoldable pub told : ℕ → ℕ → List ℕ → Line
 told room letter argument =
     if eqb letter 0x69 then image_of room argument
-    else if eqb letter 0x6B then packetOf room argument
+    else if eqb letter 0x6B then packet_of room argument
     else counted letter argument
 
 -- `x` (0x78) and `d` (0x64) have no argument.
@@ -132,12 +132,12 @@ line_of room text = if ltb 2048 (length text) then Unread else said room (bare t
 unfoldable pub bytes_of : Line → List ℕ → List ℕ
 bytes_of Pass argument = []
 bytes_of Unread argument = []
-bytes_of (Image n) argument = hexOf argument
+bytes_of (Image n) argument = hex_of argument
 bytes_of (Room n) argument = []
 bytes_of (Press n) argument = []
 bytes_of (Release n) argument = []
 bytes_of (Ticks n) argument = []
-bytes_of (Packet n) argument = hexOf argument
+bytes_of (Packet n) argument = hex_of argument
 bytes_of Restart argument = []
 bytes_of Dump argument = []
 

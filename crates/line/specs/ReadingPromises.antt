@@ -4,12 +4,12 @@ use Rattle.std.specs.Prelude.{ℕ, ◌+◌, ◌≤◌, List, [], ◌∷◌, map,
 use Rattle.words.specs.Words.{if◌then◌else◌}
 use Rattle.line.specs.declared.Line.{Line}
 use Rattle.line.specs.declared.Line.TheVariants.{Pass, Unread, Image, Room, Press, Ticks, Packet, Restart, Dump}
-use Rattle.line.specs.Reading.{bare, between, number_of, hex, hexOf, line_of, Reads}
+use Rattle.line.specs.Reading.{bare, between, number_of, hex, hex_of, line_of, Reads}
 
 -- The bytes of a line's hex are the first n of the lent ones.
 pub record Held (text : List ℕ) (n : ℕ) (after : List ℕ) : Type 0 where
   pub room : n ≤ length after
-  pub bytes : take n after ≡ hexOf (drop 2 (bare text))
+  pub bytes : take n after ≡ hex_of (drop 2 (bare text))
 
 -- What a caller may count on: the bytes of an image or a packet are where the line says, and the sizes are within their range.
 pub record Sizes : Type 0 where
@@ -30,7 +30,7 @@ lowered byte = if between 0x41 byte 0x46 then byte + 0x20 else byte
 -- Hex digits of upper and lower case read alike.
 pub record CaseAlike : Type 0 where
   pub reads : (room : ℕ) (text : List ℕ) → hex room (map lowered text) ≡ hex room text
-  pub bytes : (text : List ℕ) → hexOf (map lowered text) ≡ hexOf text
+  pub bytes : (text : List ℕ) → hex_of (map lowered text) ≡ hex_of text
 
 -- A zero in front of a number changes nothing.
 abbrev pub LeadingZero : Type 0

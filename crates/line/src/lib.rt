@@ -1,8 +1,9 @@
 // A line of a script read: what it says, and the bytes that its hex stands for.
+#![tactic(auto)]
 ghost use Rattle.std.specs.Prelude.{◌≡◌, ◌≤◌, ◌/◌, true, length, drop};
 ghost use Rattle.line.specs.declared.Number.TheVariants.{Is};
-ghost use Rattle.line.specs.Reading.{bare, gap, blank, digitOf, digits, value, within, number_of, hex, hexOf, image_of, dash, packetOf};
-ghost use Rattle.line.specs.Reading.{limitOf, numbered, counted, told, alone, said, laid, Says, Reads};
+ghost use Rattle.line.specs.Reading.{bare, gap, blank, digit_of, digits, value, within, number_of, hex, hex_of, image_of, dash, packet_of};
+ghost use Rattle.line.specs.Reading.{limit_of, numbered, counted, told, alone, said, laid, Says, Reads};
 
 // The longest line, its CR counted.
 const LONGEST: usize = 2048;
@@ -31,7 +32,7 @@ const DASH: u8 = b'-';
 const NONE: u8 = 255;
 
 // A line of a script. `Pass` is passed over, `Unread` does not read; `Image` and `Packet` say how many bytes they have.
-#[derive(Drop)]
+#[derive(Clone, Copy)]
 pub enum Line {
     Pass,
     Unread,
@@ -46,7 +47,7 @@ pub enum Line {
 }
 
 // A number within its range, or none.
-#[derive(Drop)]
+#[derive(Clone, Copy)]
 enum Number {
     Is(u32),
     Not,
@@ -150,7 +151,7 @@ fn image(argument: &[u8], bytes: &mut [u8]) -> Line
 }
 
 fn packet(argument: &[u8], bytes: &mut [u8]) -> Line
-    ensures { Says (packetOf (length bytes.old) argument.now) argument.now bytes.old result bytes.new }
+    ensures { Says (packet_of (length bytes.old) argument.now) argument.now bytes.old result bytes.new }
 {
     if dash(argument) {
         return Line::Packet(0);
@@ -196,7 +197,7 @@ fn hex(text: &[u8], room: usize) -> bool
 // The bytes that the pairs stand for, at the front of the lent ones.
 fn lay(text: &[u8], bytes: &mut [u8])
     requires { (digits 16 text.now ≡ true) × (length text.now / 2 ≤ length bytes.old) }
-    ensures { bytes.new ≡ laid (hexOf text.now) bytes.old }
+    ensures { bytes.new ≡ laid (hex_of text.now) bytes.old }
 {
     let count = text.len() / 2;
     let mut i = 0;
@@ -221,7 +222,7 @@ fn counted(letter: u8, argument: &[u8]) -> Line
 
 // The largest number that a letter takes.
 fn limit(letter: u8) -> u32
-    ensures { result ≡ limitOf letter }
+    ensures { result ≡ limit_of letter }
 {
     match letter {
         b'b' => ROOM,
@@ -232,7 +233,7 @@ fn limit(letter: u8) -> u32
 
 // A letter with its number, which is within the letter's range.
 fn numbered(letter: u8, n: u32) -> Line
-    requires { n ≤ limitOf letter }
+    requires { n ≤ limit_of letter }
     ensures { result ≡ numbered letter (Is n) }
 {
     match letter {
@@ -290,7 +291,7 @@ fn digits(text: &[u8], base: u8) -> bool
 }
 
 fn digit(byte: u8) -> u8
-    ensures { result ≡ digitOf byte }
+    ensures { result ≡ digit_of byte }
 {
     match byte {
         b'0'..=b'9' => byte - b'0',

@@ -1,7 +1,8 @@
 // What a switch of this model is made of: its paddles and contacts, where each paddle's registers begin, and the places of the
 // answer buffer. Nothing else says any of this again.
+#![tactic(auto)]
 ghost use Rattle.std.specs.Prelude.{◌≡◌};
-ghost use Rattle.model.specs.Model.{paddleOf, kind_of, is_top, drives, transmitPlace, actionPlace};
+ghost use Rattle.model.specs.Model.{paddle_of, kind_of, is_top, drives, transmit_place, action_place};
 
 use paddle::Contact;
 
@@ -18,7 +19,7 @@ pub const PLACE: usize = 24;
 pub const ROOM: usize = PADDLES * PLACE;
 
 pub fn paddle_of(contact: u8) -> usize
-    ensures { result ≡ paddleOf contact }
+    ensures { result ≡ paddle_of contact }
 {
     (contact % 2) as usize
 }
@@ -48,14 +49,14 @@ pub fn drives(paddle: u8) -> bool
 
 // Where the paddle's transmit component begins. Past the last paddle they count on from the first.
 pub fn transmit_place(paddle: u8) -> usize
-    ensures { result ≡ transmitPlace paddle }
+    ensures { result ≡ transmit_place paddle }
 {
     0x70 + 5 * ((paddle as usize) % PADDLES)
 }
 
 // Where its lines of the action table begin.
 pub fn action_place(paddle: u8) -> usize
-    ensures { result ≡ actionPlace paddle }
+    ensures { result ≡ action_place paddle }
 {
     0x7A + 4 * ((paddle as usize) % PADDLES)
 }

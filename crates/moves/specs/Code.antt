@@ -1,47 +1,47 @@
 -- What the code and the proofs are cut by: no promise under the roof needs a definition of this file.
 use Rattle.core.specs.Prelude.{◌≡◌, ℕ, Bool, ◌||◌, List, [], ◌∷◌, ◌==◌}
 use Rattle.timers.specs.Timers.{less}
-use Rattle.lamp.specs.Lamp.{nextLamp}
+use Rattle.lamp.specs.Lamp.{next_lamp}
 use Rattle.vault.specs.Job.{changed}
 use Rattle.vault.specs.declared.Mode.{Mode}
 use Rattle.vault.specs.declared.Mode.TheVariants.{Normal, Setup, Factory}
 use Rattle.dimmer.specs.Dimmer.{ticked}
 use Rattle.paddle.specs.declared.Gesture.{Gesture}
 use Rattle.paddle.specs.declared.Gesture.TheVariants.{Nothing, Taps, Hold, Release}
-use Rattle.writes.specs.Writes.{applied, changeOf}
+use Rattle.writes.specs.Writes.{applied, change_of}
 use Rattle.acts.specs.Core.{aged, core, entering, saved}
 use Rattle.gestures.specs.Gestures.{leads, writes}
 use Rattle.acts.specs.declared.Core.{Core}
-use Rattle.state.specs.State.{core_of, dimmerOf, passwordOf}
-use Rattle.state.specs.Keeping.{keptCourse, keptLevels, keptPassword, keptSave}
+use Rattle.state.specs.State.{core_of, dimmer_of, password_of}
+use Rattle.state.specs.Keeping.{kept_course, kept_levels, kept_password, kept_save}
 use Rattle.state.specs.Code.{CoreKept}
 use Rattle.moves.specs.declared.shift.Alone.{Alone}
 use Rattle.moves.specs.declared.shift.Alone.TheVariants.{Nobody, One, More}
 
 -- The core after a tick that completes no gesture and saves nothing.
-unfoldable pub passedCore : Core → Core
-passedCore c = core c.mode (ticked c.dimmer) (nextLamp c.lamp) (less c.save)
+unfoldable pub passed_core : Core → Core
+passed_core c = core c.mode (ticked c.dimmer) (next_lamp c.lamp) (less c.save)
 
 -- The dimmer's part of a tick.
 pub record Moves (counters numbers counters' numbers' : List ℕ) : Type 0 where
-  pub counted : counters' ≡ keptCourse (ticked (dimmerOf counters numbers)).motion counters
-  pub numbered : numbers' ≡ keptLevels (ticked (dimmerOf counters numbers)) numbers
+  pub counted : counters' ≡ kept_course (ticked (dimmer_of counters numbers)).motion counters
+  pub numbered : numbers' ≡ kept_levels (ticked (dimmer_of counters numbers)) numbers
 
 -- The save, where it is due.
 pub record Saves (counters numbers all counters' all' : List ℕ) : Type 0 where
-  pub counted : counters' ≡ keptSave (saved (core_of counters numbers)).core.save counters
+  pub counted : counters' ≡ kept_save (saved (core_of counters numbers)).core.save counters
   pub registers : all' ≡ applied (saved (core_of counters numbers)).write [] all
 
 -- A run of taps beside what the paddles before it complete.
-unfoldable pub oneMore : Alone → ℕ → Alone
-oneMore Nobody taps = One taps
-oneMore (One n) taps = More
-oneMore More taps = More
+unfoldable pub one_more : Alone → ℕ → Alone
+one_more Nobody taps = One taps
+one_more (One n) taps = More
+one_more More taps = More
 
 -- A gesture beside them.
 unfoldable pub with : Alone → Gesture → Alone
 with a Nothing = a
-with a (Taps taps) = oneMore a taps
+with a (Taps taps) = one_more a taps
 with a Hold = More
 with a Release = More
 
@@ -51,14 +51,14 @@ alongside a [] = a
 alongside a (g ∷ gs) = alongside (with a g) gs
 
 -- The taps of a run that is alone.
-unfoldable pub tapsOf : Alone → ℕ
-tapsOf Nobody = 0
-tapsOf (One taps) = taps
-tapsOf More = 0
+unfoldable pub taps_of : Alone → ℕ
+taps_of Nobody = 0
+taps_of (One taps) = taps
+taps_of More = 0
 
 -- Those of a tick that completes one run of taps and nothing else.
 unfoldable pub lone : List Gesture → ℕ
-lone gs = tapsOf (alongside Nobody gs)
+lone gs = taps_of (alongside Nobody gs)
 
 -- These taps move the mode.
 unfoldable pub shifts : Mode → ℕ → Bool
@@ -68,7 +68,7 @@ shifts Factory taps = taps == 2
 
 -- What such taps write is written, the password's bytes too.
 pub record Writes (mode : Mode) (taps : ℕ) (numbers all numbers' all' : List ℕ) : Type 0 where
-  pub numbered : numbers' ≡ keptPassword (changed (changeOf (writes mode (Taps taps)) []) (passwordOf numbers)) numbers
+  pub numbered : numbers' ≡ kept_password (changed (change_of (writes mode (Taps taps)) []) (password_of numbers)) numbers
   pub registers : all' ≡ applied (writes mode (Taps taps)) [] all
 
 -- The core after such taps, before the save.
@@ -79,7 +79,7 @@ shifted taps c = entering (leads c.mode (Taps taps)) (aged c)
 pub record Shifts (taps : ℕ) (counters numbers all counters' numbers' all' : List ℕ) : Type 0 where
   pub kept :
       let k = core_of counters numbers in
-      CoreKept (saved (shifted taps k)).core (changed (changeOf (writes k.mode (Taps taps)) []) (passwordOf numbers)) counters numbers counters' numbers'
+      CoreKept (saved (shifted taps k)).core (changed (change_of (writes k.mode (Taps taps)) []) (password_of numbers)) counters numbers counters' numbers'
   pub registers :
       let k = core_of counters numbers in
       all' ≡ applied (saved (shifted taps k)).write [] (applied (writes k.mode (Taps taps)) [] all)

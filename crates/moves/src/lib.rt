@@ -1,9 +1,10 @@
 // What a tick moves in place: the timers and the motion of the core, the save, and the mode where one run of taps is all that a tick
 // completes.
+#![tactic(auto)]
 ghost use Rattle.core.specs.Prelude.{◌≡◌};
-ghost use Rattle.state.specs.State.{core_of, passwordOf};
+ghost use Rattle.state.specs.State.{core_of, password_of};
 ghost use Rattle.state.specs.Code.{CoreKept};
-ghost use Rattle.moves.specs.Code.{passedCore, Moves, Saves};
+ghost use Rattle.moves.specs.Code.{passed_core, Moves, Saves};
 
 use acts::next_save;
 use state::core::{
@@ -17,7 +18,7 @@ pub mod shift;
 
 // A tick that completes no gesture and saves nothing.
 pub fn pass(counters: &mut [u16; COUNTERS], numbers: &mut [u8; NUMBERS])
-    ensures { CoreKept (passedCore (core_of counters.old numbers.old)) (passwordOf numbers.old) counters.old numbers.old counters.new numbers.new }
+    ensures { CoreKept (passed_core (core_of counters.old numbers.old)) (password_of numbers.old) counters.old numbers.old counters.new numbers.new }
 {
     move_on(counters, numbers);
     let save = timers::run(save_in(counters));

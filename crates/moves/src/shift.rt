@@ -4,7 +4,7 @@ ghost use Rattle.writes.specs.Writes.{applied};
 ghost use Rattle.paddle.specs.declared.Gesture.TheVariants.{Taps};
 ghost use Rattle.vault.specs.declared.Mode.TheVariants.{Normal, Setup, Factory};
 ghost use Rattle.gestures.specs.Gestures.{leads, writes};
-ghost use Rattle.moves.specs.Code.{lone, oneMore, shifts, tapsOf, with, Shifts, Writes};
+ghost use Rattle.moves.specs.Code.{lone, one_more, shifts, taps_of, with, Shifts, Writes};
 
 use crate::{move_on, save};
 use model::PADDLES;
@@ -16,7 +16,7 @@ use vault::Mode;
 use writes::{Write, apply, password};
 
 // What the paddles complete at a tick: nothing, one run of taps and nothing else, or anything else.
-#[derive(Drop)]
+#[derive(Clone, Copy)]
 pub enum Alone {
     Nobody,
     One(u8),
@@ -50,7 +50,7 @@ impl Alone {
     }
 
     fn one_more(self, taps: u8) -> Alone
-        ensures { result ≡ oneMore self taps }
+        ensures { result ≡ one_more self taps }
     {
         match self {
             Alone::Nobody => Alone::One(taps),
@@ -60,7 +60,7 @@ impl Alone {
     }
 
     fn taps(self) -> u8
-        ensures { result ≡ tapsOf self }
+        ensures { result ≡ taps_of self }
     {
         match self {
             Alone::Nobody => 0,

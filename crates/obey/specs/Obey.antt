@@ -7,15 +7,15 @@ use Rattle.post.specs.declared.Reply.{Reply}
 use Rattle.post.specs.declared.Reply.TheVariants as reply
 
 -- 01, Commands, 3 (0x30): Report has a reply, no other work has one.
-unfoldable pub replyTo : Work → Reply
-replyTo work.Report = reply.Status
-replyTo work.Close = reply.Silence
-replyTo (work.Set first) = reply.Silence
-replyTo (work.Store i) = reply.Silence
-replyTo (work.Drive d) = reply.Silence
+unfoldable pub reply_to : Work → Reply
+reply_to work.Report = reply.Status
+reply_to work.Close = reply.Silence
+reply_to (work.Set first) = reply.Silence
+reply_to (work.Store i) = reply.Silence
+reply_to (work.Drive d) = reply.Silence
 
 -- 01, Lamp, start, factory values, 1 (diagnostic): after a packet that is answered 0 the signal is red if a reply is sent, else green.
-unfoldable pub hueOf : Reply → Colour
-hueOf reply.Silence = Green
-hueOf reply.Status = Red
-hueOf (reply.Registers first count) = Red
+unfoldable pub hue_of : Reply → Colour
+hue_of reply.Silence = Green
+hue_of reply.Status = Red
+hue_of (reply.Registers first count) = Red

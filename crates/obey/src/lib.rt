@@ -1,14 +1,15 @@
 // What a granted order does in the lent state, each kind of order in its own parts. The lamp's signal comes after it.
+#![tactic(auto)]
 ghost use Rattle.core.specs.Prelude.{◌≡◌};
-ghost use Rattle.lamp.specs.Lamp.{signalSet};
+ghost use Rattle.lamp.specs.Lamp.{signal_set};
 ghost use Rattle.registers.specs.declared.Seen.TheVariants.{Hidden};
 ghost use Rattle.acts.specs.Core.{entering};
 ghost use Rattle.orders.specs.Orders.{driven, performed};
-ghost use Rattle.state.specs.State.{core_of, dimmerOf, lampOf, modeIn, passwordOf};
+ghost use Rattle.state.specs.State.{core_of, dimmer_of, lamp_of, mode_in, password_of};
 ghost use Rattle.state.specs.Code.{DimmerKept, LampKept};
-ghost use Rattle.obey.specs.Obey.{replyTo};
-ghost use Rattle.verdict.specs.Code.{seenOf};
-ghost use Rattle.obey.specs.Code.{effect_of, replyOf, hueBy, Ready, Obeys, Sets};
+ghost use Rattle.obey.specs.Obey.{reply_to};
+ghost use Rattle.verdict.specs.Code.{seen_of};
+ghost use Rattle.obey.specs.Code.{effect_of, reply_of, hue_by, Ready, Obeys, Sets};
 
 use judge::{Drive, Order, Work};
 use lamp::Colour;
@@ -35,7 +36,7 @@ pub fn obey(
     all: &mut [u8; 256],
     out: &mut [u8],
 ) -> u8
-    ensures { Obeys (effect_of all.old order (core_of counters.old numbers.old)) values.now source (replyOf order) (seenOf order (modeIn numbers.old) (passwordOf numbers.old)) counters.old numbers.old all.old out.old result counters.new numbers.new all.new out.new }
+    ensures { Obeys (effect_of all.old order (core_of counters.old numbers.old)) values.now source (reply_of order) (seen_of order (mode_in numbers.old) (password_of numbers.old)) counters.old numbers.old all.old out.old result counters.new numbers.new all.new out.new }
 {
     match order {
         Order::Refused(_) => 0,
@@ -63,7 +64,7 @@ fn perform(
     all: &mut [u8; 256],
     out: &mut [u8],
 ) -> u8
-    ensures { Obeys (performed all.old work (core_of counters.old numbers.old)) values.now source (replyTo work) Hidden counters.old numbers.old all.old out.old result counters.new numbers.new all.new out.new }
+    ensures { Obeys (performed all.old work (core_of counters.old numbers.old)) values.now source (reply_to work) Hidden counters.old numbers.old all.old out.old result counters.new numbers.new all.new out.new }
 {
     match work {
         Work::Report => {
@@ -91,7 +92,7 @@ fn perform(
 
 // A mode is entered: with it its blinks and its flash begin.
 fn enter(mode: Mode, counters: &mut [u16; COUNTERS], numbers: &mut [u8; NUMBERS])
-    ensures { Ready (entering mode (core_of counters.old numbers.old)) (passwordOf numbers.old) counters.old numbers.old counters.new numbers.new }
+    ensures { Ready (entering mode (core_of counters.old numbers.old)) (password_of numbers.old) counters.old numbers.old counters.new numbers.new }
 {
     sized(counters, numbers);
     keep_mode(mode, numbers);
@@ -115,7 +116,7 @@ fn drive_to(
     numbers: &mut [u8; NUMBERS],
     all: &[u8; 256],
 )
-    ensures { DimmerKept (driven all.now asked (dimmerOf counters.old numbers.old)) counters.old numbers.old counters.new numbers.new }
+    ensures { DimmerKept (driven all.now asked (dimmer_of counters.old numbers.old)) counters.old numbers.old counters.new numbers.new }
 {
     let dimmer = drive(dimmer_of(counters, numbers), all, asked);
     keep_dimmer(dimmer, counters, numbers);
@@ -123,7 +124,7 @@ fn drive_to(
 
 // The lamp's signal of a packet begins.
 pub fn signal(hue: Colour, counters: &mut [u16; COUNTERS], numbers: &mut [u8; NUMBERS])
-    ensures { LampKept (signalSet hue (lampOf counters.old numbers.old)) counters.old numbers.old counters.new numbers.new }
+    ensures { LampKept (signal_set hue (lamp_of counters.old numbers.old)) counters.old numbers.old counters.new numbers.new }
 {
     let lamp = lamp_of(counters, numbers).blinked(hue);
     keep_lamp(lamp, counters, numbers);
@@ -131,7 +132,7 @@ pub fn signal(hue: Colour, counters: &mut [u16; COUNTERS], numbers: &mut [u8; NU
 
 // Its colour for a packet that is answered 0: green, and red where a reply is sent.
 pub fn hue_of(length: u8) -> Colour
-    ensures { result ≡ hueBy length }
+    ensures { result ≡ hue_by length }
 {
     if length == 0 {
         return Colour::Green;

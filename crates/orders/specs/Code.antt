@@ -9,17 +9,17 @@ use Rattle.writes.specs.declared.Write.TheVariants.{Nothing, Values}
 use Rattle.orders.specs.Orders.{stored}
 
 -- What a work writes; of a state it needs the level alone.
-unfoldable pub workWrites : Work → Step → Write
-workWrites work.Report level = Nothing
-workWrites work.Close level = Nothing
-workWrites (work.Set first) level = Values first
-workWrites (work.Store i) level = stored level i
-workWrites (work.Drive d) level = Nothing
+unfoldable pub work_writes : Work → Step → Write
+work_writes work.Report level = Nothing
+work_writes work.Close level = Nothing
+work_writes (work.Set first) level = Values first
+work_writes (work.Store i) level = stored level i
+work_writes (work.Drive d) level = Nothing
 
 -- Which mode a work leaves.
-unfoldable pub workLeads : Work → Mode → Mode
-workLeads work.Report mode = mode
-workLeads work.Close mode = Normal
-workLeads (work.Set first) mode = mode
-workLeads (work.Store i) mode = mode
-workLeads (work.Drive d) mode = mode
+unfoldable pub work_leads : Work → Mode → Mode
+work_leads work.Report mode = mode
+work_leads work.Close mode = Normal
+work_leads (work.Set first) mode = mode
+work_leads (work.Store i) mode = mode
+work_leads (work.Drive d) mode = mode

@@ -2,16 +2,16 @@
 use Rattle.std.specs.Prelude.{◌≡◌, List, [], ◌∷◌, ◌++◌, ℕ, ◌+◌, ◌*◌, ltb, eqb, length, take, drop, set, replicate}
 use Rattle.words.specs.Words.{if◌then◌else◌}
 use Rattle.post.specs.declared.Note.{Note}
-use Rattle.post.specs.Post.{placedOne}
-use Rattle.outbox.specs.Outbox.{placed, lengthsIn, tally}
-use Rattle.model.specs.Model.{paddleCount, place}
+use Rattle.post.specs.Post.{placed_one}
+use Rattle.outbox.specs.Outbox.{placed, lengths_in, tally}
+use Rattle.model.specs.Model.{paddle_count, place}
 use Rattle.outbox.specs.declared.Sent.{Sent}
 use Rattle.outbox.specs.declared.Outbox.{Outbox}
-use Rattle.post.specs.Code.{noNote, sentOf, front}
+use Rattle.post.specs.Code.{no_note, sent_of, front}
 
 -- A whole buffer after a packet is laid into the place that begins at byte k.
 unfoldable pub placed_at : ℕ → List ℕ → List ℕ → List ℕ
-placed_at k p before = take k before ++ (placedOne p (take place (drop k before)) ++ drop place (drop k before))
+placed_at k p before = take k before ++ (placed_one p (take place (drop k before)) ++ drop place (drop k before))
 
 -- How many packets a length stands for: 0 is none.
 unfoldable pub counted : ℕ → ℕ
@@ -25,26 +25,26 @@ PacketsInOrder =
 
 -- What is counted of one packet of so many bytes.
 unfoldable pub lone : ℕ → Sent
-lone size = record { lengths = set (lengthsIn paddleCount []) 0 size; count = counted size }
+lone size = record { lengths = set (lengths_in paddle_count []) 0 size; count = counted size }
 
 -- The packets of notes in their order.
 unfoldable pub noted : List Note → List (List ℕ)
 noted [] = []
-noted (n ∷ rest) = sentOf n ++ noted rest
+noted (n ∷ rest) = sent_of n ++ noted rest
 
 -- The packets of a box: those of its first notes, as many as it counts.
-unfoldable pub packetsIn : Outbox → List (List ℕ)
-packetsIn box = noted (take box.count box.notes)
+unfoldable pub packets_in : Outbox → List (List ℕ)
+packets_in box = noted (take box.count box.notes)
 
 -- Nothing to send.
-abbrev pub noNotes : Outbox
-noNotes = record { count = 0; notes = replicate paddleCount noNote }
+abbrev pub no_notes : Outbox
+no_notes = record { count = 0; notes = replicate paddle_count no_note }
 
 -- A box with one note more, behind the others; an empty note is none, and a full box stays as it is.
 unfoldable pub boxed : Outbox → Note → Outbox
 boxed box n =
-    if eqb (length (front (sentOf n))) 0 then box
-    else if ltb box.count paddleCount then record { count = box.count + 1; notes = set box.notes box.count n }
+    if eqb (length (front (sent_of n))) 0 then box
+    else if ltb box.count paddle_count then record { count = box.count + 1; notes = set box.notes box.count n }
     else box
 
 -- What laying packets into a buffer promises: the count with the lengths, and every byte.

@@ -1,9 +1,10 @@
 // What an edge or a tick has to send: its notes in the order they arose, laid into the places of the answer buffer one after the
 // other, and counted.
+#![tactic(auto)]
 ghost use Rattle.std.specs.Prelude.{◌≡◌, [], min, length};
 ghost use Rattle.outbox.specs.Outbox.{tally};
-ghost use Rattle.post.specs.Code.{sentOf, front};
-ghost use Rattle.outbox.specs.Code.{lone, noNotes, boxed, packetsIn, counted, Sends};
+ghost use Rattle.post.specs.Code.{sent_of, front};
+ghost use Rattle.outbox.specs.Code.{lone, no_notes, boxed, packets_in, counted, Sends};
 
 use model::{PADDLES, PLACE};
 use post::{Message, Note};
@@ -12,14 +13,14 @@ use post::{Message, Note};
 const AROUND: u8 = 6;
 
 // The packets that an event sent: the length of each in its order, 0 where there is none, and how many.
-#[derive(Drop)]
+#[derive(Clone, Copy)]
 pub struct Sent {
     pub lengths: [u8; PADDLES],
     pub count: u8,
 }
 
 // How many notes there are to send, and the notes: at most one for each paddle.
-#[derive(Drop)]
+#[derive(Clone, Copy)]
 pub struct Outbox {
     pub count: u8,
     pub notes: [Note; PADDLES],
@@ -50,7 +51,7 @@ impl Sent {
 
 impl Outbox {
     pub fn none() -> Outbox
-        ensures { result ≡ noNotes }
+        ensures { result ≡ no_notes }
     {
         Outbox {
             count: 0,
@@ -80,7 +81,7 @@ impl Outbox {
 
     // Lays the packets into the places in order. One that does not fit is counted, and leaves its place alone.
     pub fn lay(self, out: &mut [u8]) -> Sent
-        ensures { Sends (packetsIn self) out.old result out.new }
+        ensures { Sends (packets_in self) out.old result out.new }
     {
         let notes = self.notes;
         let end = least(self.count as usize, PADDLES);
@@ -103,7 +104,7 @@ impl Outbox {
 
 // The length of a note's packet, 0 where there is none.
 fn size(note: Note) -> u8
-    ensures { result ≡ length (front (sentOf note)) }
+    ensures { result ≡ length (front (sent_of note)) }
 {
     let message = note.message;
     match message {

@@ -14,9 +14,9 @@ use Rattle.words.proofs.Laws.{tests, cases}
 use Rattle.packet.specs.declared.Header.{Header}
 use Rattle.packet.specs.declared.Frame.{Frame}
 use Rattle.packet.specs.declared.Frame.TheVariants.{Read, Short, Long, Length, Sum, Reserved}
-use Rattle.packet.specs.Layout.{headerIn, wholeIn, reservedIn, headBytes, total, packed}
-use Rattle.packet.specs.Reading.{read_of, numberOfFrame, messageFrom, messageOf}
-use Rattle.packet.specs.Promises.{Sized, Counted, Summed, Reads, Sound, ReadExactly, ReadRow, done, too_short, too_long, wrong-length, wrong-sum, reserved-bit}
+use Rattle.packet.specs.Layout.{header_in, whole_in, reserved_in, head_bytes, total, packed}
+use Rattle.packet.specs.Reading.{read_of, number_of_frame, message_from, message_of}
+use Rattle.packet.specs.Promises.{Sized, Counted, Summed, Reads, Sound, ReadExactly, ReadRow, done, too_short, too_long, wrong_length, wrong_sum, reserved_bit}
 use Rattle.packet.specs.contracts.Frame.{the_type}
 
 -- What the reader answers meets its row of the table.
@@ -27,11 +27,11 @@ given p =
     cases row (ltb (length p) 7) (ltb-true _ _)
     (λ a. cases row (ltb 24 (length p)) (ltb-true _ _)
     (λ b. let sized : Sized p = (ltb-false _ _ a, ltb-false _ _ b) in
-    cases row (not (eqb (wholeIn (get_or p 0 0)) (length p))) (λ c. (sized, eqb-false _ _ (not-true _ c)))
+    cases row (not (eqb (whole_in (get_or p 0 0)) (length p))) (λ c. (sized, eqb-false _ _ (not-true _ c)))
     (λ c. let counted : Counted p = (sized, eqb-true _ _ (not-false _ c)) in
     cases row (not (eqb (total p % 256) 0)) (λ d. (counted, eqb-false _ _ (not-true _ d)))
     (λ d. let summed : Summed p = (counted, eqb-true _ _ (not-false _ d)) in
-    cases row (not (eqb (reservedIn (get_or p 1 0)) 0)) (λ e. (summed, eqb-false _ _ (not-true _ e)))
+    cases row (not (eqb (reserved_in (get_or p 1 0)) 0)) (λ e. (summed, eqb-false _ _ (not-true _ e)))
     (λ e. record {
       least = sized.0;
       most = sized.1;
@@ -52,81 +52,81 @@ only Reserved p g = search tests
 only (Read h) p g = rw g.header (search tests)
 
 -- What the reader answers has that answer's number, and its row.
-row_of : (f : Frame) (p : List ℕ) → Reads f p → ReadRow p (numberOfFrame f)
+row_of : (f : Frame) (p : List ℕ) → Reads f p → ReadRow p (number_of_frame f)
 row_of Short p g = too_short g
 row_of Long p g = too_long g
-row_of Length p g = wrong-length g
-row_of Sum p g = wrong-sum g
-row_of Reserved p g = reserved-bit g
+row_of Length p g = wrong_length g
+row_of Sum p g = wrong_sum g
+row_of Reserved p g = reserved_bit g
 row_of (Read h) p g = done h g
 
-row-only : (p : List ℕ) (n : ℕ) → ReadRow p n → numberOfFrame (read_of p) ≡ n
-row-only p n (done h g) = ap numberOfFrame (only (Read h) p g)
-row-only p n (too_short g) = ap numberOfFrame (only Short p g)
-row-only p n (too_long g) = ap numberOfFrame (only Long p g)
-row-only p n (wrong-length g) = ap numberOfFrame (only Length p g)
-row-only p n (wrong-sum g) = ap numberOfFrame (only Sum p g)
-row-only p n (reserved-bit g) = ap numberOfFrame (only Reserved p g)
+row_only : (p : List ℕ) (n : ℕ) → ReadRow p n → number_of_frame (read_of p) ≡ n
+row_only p n (done h g) = ap number_of_frame (only (Read h) p g)
+row_only p n (too_short g) = ap number_of_frame (only Short p g)
+row_only p n (too_long g) = ap number_of_frame (only Long p g)
+row_only p n (wrong_length g) = ap number_of_frame (only Length p g)
+row_only p n (wrong_sum g) = ap number_of_frame (only Sum p g)
+row_only p n (reserved_bit g) = ap number_of_frame (only Reserved p g)
 
 -- Each of the reader's numbers is given exactly when its row of the table says.
 pub exactly : ReadExactly
 exactly = record {
   answer = λ f p. (λ e. subst (λ (f : Frame). Reads f p) e (given p), only f p);
-  number = λ p n. (λ e. subst (ReadRow p) e (row_of (read_of p) p (given p)), row-only p n);
+  number = λ p n. (λ e. subst (ReadRow p) e (row_of (read_of p) p (given p)), row_only p n);
 }
 
 -- A refusal's number is 4 to 8.
-pub refusal-number : (f : Frame) → (numberOfFrame f ≡ 0 → ⊥) → (4 ≤ numberOfFrame f) × (numberOfFrame f ≤ 8)
-refusal-number (Read h) n = absurd (n refl)
-refusal-number Short n = omega arith
-refusal-number Long n = omega arith
-refusal-number Length n = omega arith
-refusal-number Sum n = omega arith
-refusal-number Reserved n = omega arith
+pub refusal_number : (f : Frame) → (number_of_frame f ≡ 0 → ⊥) → (4 ≤ number_of_frame f) × (number_of_frame f ≤ 8)
+refusal_number (Read h) n = absurd (n refl)
+refusal_number Short n = omega arith
+refusal_number Long n = omega arith
+refusal_number Length n = omega arith
+refusal_number Sum n = omega arith
+refusal_number Reserved n = omega arith
 
 -- A frame that `let Frame::Read(..) = frame else` leaves is a refusal.
-pub not-read : (f : Frame) → OneOf (1 ∷ 2 ∷ 3 ∷ 4 ∷ 5 ∷ []) (tag_of the_type f) → numberOfFrame f ≡ 0 → ⊥
-not-read (Read h) k z = miss (1 ∷ 2 ∷ 3 ∷ 4 ∷ 5 ∷ []) 0 tt k
-not-read Short k z = omega arith
-not-read Long k z = omega arith
-not-read Length k z = omega arith
-not-read Sum k z = omega arith
-not-read Reserved k z = omega arith
+pub not_read : (f : Frame) → OneOf (1 ∷ 2 ∷ 3 ∷ 4 ∷ 5 ∷ []) (tag_of the_type f) → number_of_frame f ≡ 0 → ⊥
+not_read (Read h) k z = miss (1 ∷ 2 ∷ 3 ∷ 4 ∷ 5 ∷ []) 0 tt k
+not_read Short k z = omega arith
+not_read Long k z = omega arith
+not_read Length k z = omega arith
+not_read Sum k z = omega arith
+not_read Reserved k z = omega arith
 
 -- A packet that is read passes every check, and the header is the one in its bytes.
 pub sound : (p : List ℕ) (h : Header) → read_of p ≡ Read h → Sound p h
 sound p h = (exactly.answer (Read h) p).0
 
 -- The message of a packet that is read stands between the five bytes of the header and the checksum.
-pub message-is : (p : List ℕ) (h : Header) → read_of p ≡ Read h → messageOf p ≡ take (length p - 6) (drop 5 p)
-unfolding messageOf
-message-is p h e = rw (e, le-ltb (length p) 7 (sound p h e).least)
+pub message_is : (p : List ℕ) (h : Header) → read_of p ≡ Read h → message_of p ≡ take (length p - 6) (drop 5 p)
+unfolding message_of
+message_is p h e = rw (e, le-ltb (length p) 7 (sound p h e).least)
 
 -- It is six bytes shorter than the packet.
-pub message-length : (p : List ℕ) (h : Header) → read_of p ≡ Read h → length (messageOf p) + 6 ≡ length p
-message-length p h e =
+pub message_length : (p : List ℕ) (h : Header) → read_of p ≡ Read h → length (message_of p) + 6 ≡ length p
+message_length p h e =
     let s = sound p h e in
-    rw (message-is p h e, length-take, length-drop) (omega arith)
+    rw (message_is p h e, length-take, length-drop) (omega arith)
 
 -- The message of a refused packet is empty.
-pub from-refused : (f : Frame) (p : List ℕ) → (numberOfFrame f ≡ 0 → ⊥) → messageFrom f p ≡ []
-from-refused (Read h) p refused = absurd (refused refl)
-from-refused Short p refused = refl
-from-refused Long p refused = refl
-from-refused Length p refused = refl
-from-refused Sum p refused = refl
-from-refused Reserved p refused = refl
+pub from_refused : (f : Frame) (p : List ℕ) → (number_of_frame f ≡ 0 → ⊥) → message_from f p ≡ []
+from_refused (Read h) p refused = absurd (refused refl)
+from_refused Short p refused = refl
+from_refused Long p refused = refl
+from_refused Length p refused = refl
+from_refused Sum p refused = refl
+from_refused Reserved p refused = refl
 
-pub message-refused : (p : List ℕ) → (numberOfFrame (read_of p) ≡ 0 → ⊥) → messageOf p ≡ []
-unfolding messageOf
-message-refused p refused = from-refused (read_of p) p refused
+pub message_refused : (p : List ℕ) → (number_of_frame (read_of p) ≡ 0 → ⊥) → message_of p ≡ []
+unfolding message_of
+message_refused p refused = from_refused (read_of p) p refused
 
 -- The network, destination and source of a header that is read are bytes.
-pub read-bytes : (p : List ℕ) (h : Header) → Bytes p → read_of p ≡ Read h → (h.network < 256) × ((h.destination < 256) × (h.source < 256))
-unfolding headerIn
-read-bytes p h bytes e = let s = sound p h e in rw s.header (bytes 2, (bytes 3, bytes 4))
+pub read_bytes : (p : List ℕ) (h : Header) → Bytes p → read_of p ≡ Read h → (h.network < 256) × ((h.destination < 256) × (h.source < 256))
+unfolding header_in
+read_bytes p h bytes e = let s = sound p h e in rw s.header (bytes 2, (bytes 3, bytes 4))
 
 -- A written packet is its message and six bytes long.
-pub packed-length : (h : Header) (m : List ℕ) → length (packed h m) ≡ length m + 6
-unfolding packed headBytes
-packed-length h m = simp length-append (omega arith)
+pub packed_length : (h : Header) (m : List ℕ) → length (packed h m) ≡ length m + 6
+unfolding packed head_bytes
+packed_length h m = simp length-append (omega arith)

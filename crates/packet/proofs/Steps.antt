@@ -8,6 +8,6 @@ use lib.Seq.{drop-cons}
 use Rattle.packet.specs.Layout.{total}
 
 -- The sum of what is left: the next byte and what is left after it.
-pub total-drop : (p : List ℕ) (i : ℕ) → i < length p → total (drop i p) ≡ get_or p i 0 + total (drop (i + 1) p)
+pub total_drop : (p : List ℕ) (i : ℕ) → i < length p → total (drop i p) ≡ get_or p i 0 + total (drop (i + 1) p)
 unfolding total
-total-drop p i h = rw (add-one, drop-cons p i 0)
+total_drop p i h = rw (add-one, drop-cons p i 0)

@@ -4,50 +4,50 @@ use Rattle.words.specs.Words.{if◌then◌else◌}
 use Rattle.packet.specs.declared.Header.{Header}
 
 -- 01, Packet layout (H), 1: byte 0 is the link bit, two bits that request repeats, and five for the length of the whole packet.
-unfoldable pub firstByte : Bool → ℕ → ℕ → ℕ
-firstByte link repeat whole = (if link then 1 else 0) * 128 + (repeat * 32 + whole)
+unfoldable pub first_byte : Bool → ℕ → ℕ → ℕ
+first_byte link repeat whole = (if link then 1 else 0) * 128 + (repeat * 32 + whole)
 
 -- Byte 0, bit 7: whether the packet goes by link.
-abbrev pub linkBit : ℕ → Bool
-linkBit first = eqb (first / 128 % 2) 1
+abbrev pub link_bit : ℕ → Bool
+link_bit first = eqb (first / 128 % 2) 1
 
 -- Byte 0, bits 6-5.
-abbrev pub repeatIn : ℕ → ℕ
-repeatIn first = first / 32 % 4
+abbrev pub repeat_in : ℕ → ℕ
+repeat_in first = first / 32 % 4
 
 -- Byte 0, bits 4-0.
-unfoldable pub wholeIn : ℕ → ℕ
-wholeIn first = first % 32
+unfoldable pub whole_in : ℕ → ℕ
+whole_in first = first % 32
 
 -- 01, Packet layout (H), 2: byte 1 is a reserved bit, always written 0, three bits that request acknowledgement, two of transmit count and two of sequence.
-unfoldable pub secondByte : ℕ → ℕ → ℕ → ℕ
-secondByte request count sequence = request * 16 + (count * 4 + sequence)
+unfoldable pub second_byte : ℕ → ℕ → ℕ → ℕ
+second_byte request count sequence = request * 16 + (count * 4 + sequence)
 
 -- Byte 1, bit 7.
-unfoldable pub reservedIn : ℕ → ℕ
-reservedIn second = second / 128 % 2
+unfoldable pub reserved_in : ℕ → ℕ
+reserved_in second = second / 128 % 2
 
 -- Byte 1, bits 6-4.
-abbrev pub requestIn : ℕ → ℕ
-requestIn second = second / 16 % 8
+abbrev pub request_in : ℕ → ℕ
+request_in second = second / 16 % 8
 
 -- Byte 1, bits 3-2.
-abbrev pub countIn : ℕ → ℕ
-countIn second = second / 4 % 4
+abbrev pub count_in : ℕ → ℕ
+count_in second = second / 4 % 4
 
 -- Byte 1, bits 1-0.
-abbrev pub sequenceIn : ℕ → ℕ
-sequenceIn second = second % 4
+abbrev pub sequence_in : ℕ → ℕ
+sequence_in second = second % 4
 
 -- 01, Packet layout (H), 1 to 3: the header in the first five bytes: two with several fields each, three that are a field each.
-unfoldable pub headerIn : ℕ → ℕ → ℕ → ℕ → ℕ → Header
-headerIn first second network destination source =
+unfoldable pub header_in : ℕ → ℕ → ℕ → ℕ → ℕ → Header
+header_in first second network destination source =
     record {
-      link = linkBit first;
-      repeat = repeatIn first;
-      request = requestIn second;
-      count = countIn second;
-      sequence = sequenceIn second;
+      link = link_bit first;
+      repeat = repeat_in first;
+      request = request_in second;
+      count = count_in second;
+      sequence = sequence_in second;
       network = network;
       destination = destination;
       source = source;
@@ -63,10 +63,10 @@ unfoldable pub balance : ℕ → ℕ
 balance sum = (256 - sum) % 256
 
 -- The five bytes before a message of `size` bytes, and the rest behind them; the packet is six bytes longer than its message.
-unfoldable pub headBytes : Header → ℕ → List ℕ → List ℕ
-headBytes h size rest =
-    firstByte h.link h.repeat (size + 6)
-    ∷ secondByte h.request h.count h.sequence
+unfoldable pub head_bytes : Header → ℕ → List ℕ → List ℕ
+head_bytes h size rest =
+    first_byte h.link h.repeat (size + 6)
+    ∷ second_byte h.request h.count h.sequence
     ∷ h.network
     ∷ h.destination
     ∷ h.source
@@ -89,4 +89,4 @@ header link network destination source =
 -- 01, Packet layout (H), 3: the whole packet is the five bytes of the header, the message, and the checksum over both.
 unfoldable pub packed : Header → List ℕ → List ℕ
 packed h message =
-    headBytes h (length message) message ++ balance (total (headBytes h (length message) message) % 256) ∷ []
+    head_bytes h (length message) message ++ balance (total (head_bytes h (length message) message) % 256) ∷ []

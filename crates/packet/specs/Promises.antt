@@ -3,8 +3,8 @@ use Rattle.std.specs.Prelude.{ℕ, ◌%◌, ◌≤◌, ◌<◌, List, ◌↔◌,
 use Rattle.packet.specs.declared.Header.{Header}
 use Rattle.packet.specs.declared.Frame.{Frame}
 use Rattle.packet.specs.declared.Frame.TheVariants.{Read, Short, Long, Length, Sum, Reserved}
-use Rattle.packet.specs.Layout.{wholeIn, reservedIn, headerIn, total}
-use Rattle.packet.specs.Reading.{read_of, numberOfFrame}
+use Rattle.packet.specs.Layout.{whole_in, reserved_in, header_in, total}
+use Rattle.packet.specs.Reading.{read_of, number_of_frame}
 
 -- The packet passes 4 and 5.
 abbrev pub Sized : List ℕ → Type 0
@@ -12,7 +12,7 @@ Sized p = (7 ≤ length p) × (length p ≤ 24)
 
 -- The packet passes 4 to 6.
 abbrev pub Counted : List ℕ → Type 0
-Counted p = Sized p × (wholeIn (get_or p 0 0) ≡ length p)
+Counted p = Sized p × (whole_in (get_or p 0 0) ≡ length p)
 
 -- The packet passes 4 to 7.
 abbrev pub Summed : List ℕ → Type 0
@@ -22,18 +22,18 @@ Summed p = Counted p × (total p % 256 ≡ 0)
 pub record Sound (p : List ℕ) (h : Header) : Type 0 where
   pub least : 7 ≤ length p
   pub most : length p ≤ 24
-  pub whole : wholeIn (get_or p 0 0) ≡ length p
+  pub whole : whole_in (get_or p 0 0) ≡ length p
   pub sum : total p % 256 ≡ 0
-  pub reserved : reservedIn (get_or p 1 0) ≡ 0
-  pub header : h ≡ headerIn (get_or p 0 0) (get_or p 1 0) (get_or p 2 0) (get_or p 3 0) (get_or p 4 0)
+  pub reserved : reserved_in (get_or p 1 0) ≡ 0
+  pub header : h ≡ header_in (get_or p 0 0) (get_or p 1 0) (get_or p 2 0) (get_or p 3 0) (get_or p 4 0)
 
 -- 01, Answer numbers, rows 4 to 8 and 0, for the reader: the row's own condition, and no earlier row's.
 abbrev pub Reads : Frame → List ℕ → Type 0
 Reads Short p = length p < 7
 Reads Long p = 24 < length p
-Reads Length p = Sized p × (wholeIn (get_or p 0 0) ≡ length p → ⊥)
+Reads Length p = Sized p × (whole_in (get_or p 0 0) ≡ length p → ⊥)
 Reads Sum p = Counted p × (total p % 256 ≡ 0 → ⊥)
-Reads Reserved p = Summed p × (reservedIn (get_or p 1 0) ≡ 0 → ⊥)
+Reads Reserved p = Summed p × (reserved_in (get_or p 1 0) ≡ 0 → ⊥)
 Reads (Read h) p = Sound p h
 
 -- The reader's rows by their numbers.
@@ -41,11 +41,11 @@ pub data ReadRow (p : List ℕ) : ℕ → Type 0 where
   done : (h : Header) → Reads (Read h) p → ReadRow p 0
   too_short : Reads Short p → ReadRow p 4
   too_long : Reads Long p → ReadRow p 5
-  wrong-length : Reads Length p → ReadRow p 6
-  wrong-sum : Reads Sum p → ReadRow p 7
-  reserved-bit : Reads Reserved p → ReadRow p 8
+  wrong_length : Reads Length p → ReadRow p 6
+  wrong_sum : Reads Sum p → ReadRow p 7
+  reserved_bit : Reads Reserved p → ReadRow p 8
 
 -- 01, Answer numbers, heading of the table: for the reader, each answer and each number if and only if its row holds.
 pub record ReadExactly : Type 0 where
   pub answer : (f : Frame) (p : List ℕ) → (read_of p ≡ f) ↔ Reads f p
-  pub number : (p : List ℕ) (n : ℕ) → (numberOfFrame (read_of p) ≡ n) ↔ ReadRow p n
+  pub number : (p : List ℕ) (n : ℕ) → (number_of_frame (read_of p) ≡ n) ↔ ReadRow p n

@@ -1,7 +1,8 @@
 // The packet on the line: its header read and checked, and its message handed back.
+#![tactic(auto)]
 ghost use Rattle.std.specs.Prelude.{◌≡◌, ◌%◌};
-ghost use Rattle.packet.specs.Layout.{wholeIn, reservedIn, headerIn, total};
-ghost use Rattle.packet.specs.Reading.{read_of, numberOfFrame, messageFrom};
+ghost use Rattle.packet.specs.Layout.{whole_in, reserved_in, header_in, total};
+ghost use Rattle.packet.specs.Reading.{read_of, number_of_frame, message_from};
 
 // The shortest and the longest packet.
 const LEAST: usize = 7;
@@ -19,7 +20,7 @@ pub const THREE_BITS: u8 = 7;
 const FIVE_BITS: u8 = 31;
 
 // The header's fields, but for the whole length, which follows from the message, and the reserved bit, which is 0.
-#[derive(Drop)]
+#[derive(Clone, Copy)]
 pub struct Header {
     pub link: bool,
     pub repeat: u8,
@@ -32,7 +33,7 @@ pub struct Header {
 }
 
 // The reader's answer: the header, or one of the numbers 4 to 8.
-#[derive(Drop)]
+#[derive(Clone, Copy)]
 pub enum Frame {
     Read(Header),
     Short,
@@ -44,7 +45,7 @@ pub enum Frame {
 
 impl Frame {
     pub fn number(self) -> u8
-        ensures { result ≡ numberOfFrame self }
+        ensures { result ≡ number_of_frame self }
     {
         match self {
             Frame::Read(_) => 0,
@@ -91,7 +92,7 @@ pub fn read(packet: &[u8]) -> Frame
 
 // The message, lent out of the caller's packet, by what the reader answered to it; empty where that is a refusal.
 pub fn message(frame: Frame, packet: &[u8]) -> &[u8]
-    ensures { result.now ≡ messageFrom frame packet.now }
+    ensures { result.now ≡ message_from frame packet.now }
 {
     let Frame::Read(_) = frame else {
         return &packet[..0];
@@ -106,20 +107,20 @@ pub fn message(frame: Frame, packet: &[u8]) -> &[u8]
 
 // Byte 0, bits 4-0.
 fn whole(first: u8) -> u8
-    ensures { result ≡ wholeIn first }
+    ensures { result ≡ whole_in first }
 {
     first & FIVE_BITS
 }
 
 // Byte 1, bit 7.
 fn reserved(second: u8) -> u8
-    ensures { result ≡ reservedIn second }
+    ensures { result ≡ reserved_in second }
 {
     second >> 7 & 1
 }
 
 fn fields(first: u8, second: u8, network: u8, destination: u8, source: u8) -> Header
-    ensures { result ≡ headerIn first second network destination source }
+    ensures { result ≡ header_in first second network destination source }
 {
     Header {
         link: first >> 7 & 1 == 1,

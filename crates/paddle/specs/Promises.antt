@@ -5,7 +5,7 @@ use Rattle.timers.specs.Timers.{less, less_by}
 use Rattle.paddle.specs.declared.Contact.{Contact}
 use Rattle.paddle.specs.declared.Contact.TheVariants.{Local, Slave}
 use Rattle.paddle.specs.declared.Paddle.{Paddle}
-use Rattle.paddle.specs.Paddle.{paddle, down, pressed, released, gestureUp, gesture, nextPaddle}
+use Rattle.paddle.specs.Paddle.{paddle, down, pressed, released, gesture_up, gesture, next_paddle}
 
 -- After how many ticks that complete nothing the tick comes that completes a gesture, if no edge comes first.
 pub data Wait : Type 0 where
@@ -13,12 +13,12 @@ pub data Wait : Type 0 where
   after : ℕ → Wait
 
 -- The wait with so many ticks left, where something is owed.
-unfoldable pub waitFor : ℕ → ℕ → Wait
-waitFor owed left = if eqb owed 0 then never else after (less left)
+unfoldable pub wait_for : ℕ → ℕ → Wait
+wait_for owed left = if eqb owed 0 then never else after (less left)
 
 -- Down, a paddle owes Hold; up, it owes the taps that are counted.
 unfoldable pub wait : Paddle → Wait
-wait p = if down p then waitFor p.hold p.hold else waitFor p.taps p.gap
+wait p = if down p then wait_for p.hold p.hold else wait_for p.taps p.gap
 
 -- The tick that ends the wait is one of the first n.
 unfoldable pub past : ℕ → Wait → Bool
@@ -26,13 +26,13 @@ past n never = false
 past n (after k) = ltb k n
 
 -- The paddle after n ticks, one by one.
-unfoldable pub paddleTicks : ℕ → Paddle → Paddle
-paddleTicks zero p = p
-paddleTicks (suc n) p = nextPaddle (paddleTicks n p)
+unfoldable pub paddle_ticks : ℕ → Paddle → Paddle
+paddle_ticks zero p = p
+paddle_ticks (suc n) p = next_paddle (paddle_ticks n p)
 
 -- The paddle after n ticks, in closed form: the tick that ends the wait takes the taps with it.
-unfoldable pub paddleSkip : ℕ → Paddle → Paddle
-paddleSkip n p = paddle p.local p.slave (if down p then less_by n p.hold else p.hold) (less_by n p.gap) (if past n (wait p) then 0 else p.taps)
+unfoldable pub paddle_skip : ℕ → Paddle → Paddle
+paddle_skip n p = paddle p.local p.slave (if down p then less_by n p.hold else p.hold) (less_by n p.gap) (if past n (wait p) then 0 else p.taps)
 
 -- A paddle with both contacts up.
 abbrev pub raised : ℕ → ℕ → ℕ → Paddle
@@ -53,8 +53,8 @@ SameEssence p q = essence p ≡ essence q
 -- No event tells the two paddles apart: it gives the same gesture of both and leaves them alike in all that matters.
 pub record Same (p q : Paddle) : Type 0 where
   pub press : (contact : Contact) → SameEssence (pressed contact p) (pressed contact q)
-  pub release : (contact : Contact) → (gestureUp contact p ≡ gestureUp contact q) × SameEssence (released contact p) (released contact q)
-  pub tick : (gesture p ≡ gesture q) × SameEssence (nextPaddle p) (nextPaddle q)
+  pub release : (contact : Contact) → (gesture_up contact p ≡ gesture_up contact q) × SameEssence (released contact p) (released contact q)
+  pub tick : (gesture p ≡ gesture q) × SameEssence (next_paddle p) (next_paddle q)
 
 -- Whether a contact is down.
 unfoldable pub touched : Contact → Paddle → Bool

@@ -1,8 +1,9 @@
 // One paddle: edges in, gestures out; its ticks are run where the paddles' bytes are (panel). Nothing here knows which paddle of the
 // switch it is.
+#![tactic(auto)]
 ghost use Rattle.std.specs.Prelude.{◌≡◌};
-ghost use Rattle.paddle.specs.Paddle.{freshPaddle, down, pressed, released, gestureUp, withContact, holdFrom, ended, ending, tapped, oneTapMore};
-ghost use Rattle.paddle.specs.Code.{turn, completesNothing};
+ghost use Rattle.paddle.specs.Paddle.{fresh_paddle, down, pressed, released, gesture_up, with_contact, hold_from, ended, ending, tapped, one_tap_more};
+ghost use Rattle.paddle.specs.Code.{turn, completes_nothing};
 
 // Ticks from the press to Hold.
 const HOLD: u8 = 180;
@@ -14,14 +15,14 @@ const TAP: u8 = 120;
 const MOST: u8 = 11;
 
 // A paddle has a contact of its own and one of the slave switch.
-#[derive(Drop)]
+#[derive(Clone, Copy)]
 pub enum Contact {
     Local,
     Slave,
 }
 
 // What a paddle completes at an event; `Taps` with how many.
-#[derive(Drop)]
+#[derive(Clone, Copy)]
 pub enum Gesture {
     Nothing,
     Taps(u8),
@@ -30,7 +31,7 @@ pub enum Gesture {
 }
 
 // `hold`: ticks left before Hold. `gap`: ticks left of the gap. `taps`: taps counted in the run.
-#[derive(Drop)]
+#[derive(Clone, Copy)]
 pub struct Paddle {
     pub local: bool,
     pub slave: bool,
@@ -40,7 +41,7 @@ pub struct Paddle {
 }
 
 // What an event makes of a paddle, and the gesture that it completes.
-#[derive(Drop)]
+#[derive(Clone, Copy)]
 pub struct Turn {
     pub paddle: Paddle,
     pub gesture: Gesture,
@@ -49,7 +50,7 @@ pub struct Turn {
 impl Gesture {
     // Whether there is no gesture.
     pub fn none(self) -> bool
-        ensures { result ≡ completesNothing self }
+        ensures { result ≡ completes_nothing self }
     {
         match self {
             Gesture::Nothing => true,
@@ -63,7 +64,7 @@ impl Gesture {
 impl Paddle {
     // As after a start or a restart.
     pub fn up() -> Paddle
-        ensures { result ≡ freshPaddle }
+        ensures { result ≡ fresh_paddle }
     {
         Paddle {
             local: false,
@@ -91,7 +92,7 @@ impl Paddle {
 
     // A tap is counted, and Release given, in the edge that lets the paddle go.
     pub fn release(self, contact: Contact) -> Turn
-        ensures { result ≡ turn (released contact self) (gestureUp contact self) }
+        ensures { result ≡ turn (released contact self) (gesture_up contact self) }
     {
         let lifted = self.moved(contact, false);
         if self.down() & !lifted.down() {
@@ -104,7 +105,7 @@ impl Paddle {
     }
 
     fn moved(mut self, contact: Contact, down: bool) -> Paddle
-        ensures { result ≡ withContact contact down self }
+        ensures { result ≡ with_contact contact down self }
     {
         match contact {
             Contact::Local => {
@@ -120,7 +121,7 @@ impl Paddle {
 
     // The ticks left before Hold once a contact is pressed.
     fn begun(self) -> u8
-        ensures { result ≡ holdFrom self }
+        ensures { result ≡ hold_from self }
     {
         if self.down() {
             return self.hold;
@@ -162,7 +163,7 @@ impl Paddle {
 }
 
 fn counted(taps: u8) -> u8
-    ensures { result ≡ oneTapMore taps }
+    ensures { result ≡ one_tap_more taps }
 {
     if taps < MOST {
         return taps + 1;

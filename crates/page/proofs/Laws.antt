@@ -9,18 +9,18 @@ use borrow.Author.Tests.{lt-ltb, le-ltb}
 use lib.ListN.{length, get_or, take, drop, set, length-append, length-set}
 use lib.Seq.{drop-cons, sets, sets-eq}
 use Rattle.words.proofs.Laws.{two_ways}
-use Rattle.page.specs.Page.{Page, put, puts, digitsUpTo, digits, hexDigit, hexOf, word, spaced, listed, line, page_of}
+use Rattle.page.specs.Page.{Page, put, puts, digits_up_to, digits, hex_digit, hex_of, word, spaced, listed, line, page_of}
 use native.Mathlib.Nat.{add-zero, pow-suc}
 
 -- A text and then another one is the second behind the first.
-pub puts-append : (a b : List ℕ) (p : Page) → puts (a ++ b) p ≡ puts b (puts a p)
+pub puts_append : (a b : List ℕ) (p : Page) → puts (a ++ b) p ≡ puts b (puts a p)
 unfolding puts
-puts-append [] b p = refl
-puts-append (byte ∷ a) b p = puts-append a b (put byte p)
+puts_append [] b p = refl
+puts_append (byte ∷ a) b p = puts_append a b (put byte p)
 
 -- Two texts written one behind the other.
 pub after : (a b : List ℕ) (p q r : Page) → q ≡ puts a p → r ≡ puts b q → r ≡ puts (a ++ b) p
-after a b p q r first second = second ∙ rw (first, puts-append)
+after a b p q r first second = second ∙ rw (first, puts_append)
 
 -- A line's opening, what it says, and its end.
 pub lined : (letter : ℕ) (text : List ℕ) (p q r s : Page)
@@ -32,55 +32,55 @@ unfolding line
 lined letter text p q r s opened said ended = after _ _ p q s opened (after _ _ q r s said ended)
 
 -- What is left of a text: its next byte, and what is left behind that.
-pub text-next : (bytes : List ℕ) (i : ℕ) (p q : Page) → i < length bytes → q ≡ puts (get_or bytes i 0 ∷ []) p
+pub text_next : (bytes : List ℕ) (i : ℕ) (p q : Page) → i < length bytes → q ≡ puts (get_or bytes i 0 ∷ []) p
     → puts (drop (i + 1) bytes) q ≡ puts (drop i bytes) p
 unfolding puts
-text-next bytes i p q h e = rw (e, add-one, drop-cons bytes i 0)
+text_next bytes i p q h e = rw (e, add-one, drop-cons bytes i 0)
 
 -- The same in hex: the next byte's two digits.
-pub hex-next : (bytes : List ℕ) (i high low : ℕ) (p q r : Page) → i < length bytes
-    → high ≡ hexDigit (get_or bytes i 0 / 16)
+pub hex_next : (bytes : List ℕ) (i high low : ℕ) (p q r : Page) → i < length bytes
+    → high ≡ hex_digit (get_or bytes i 0 / 16)
     → q ≡ puts (high ∷ []) p
-    → low ≡ hexDigit (get_or bytes i 0 % 16)
+    → low ≡ hex_digit (get_or bytes i 0 % 16)
     → r ≡ puts (low ∷ []) q
-    → puts (hexOf (drop (i + 1) bytes)) r ≡ puts (hexOf (drop i bytes)) p
-unfolding puts hexOf
-hex-next bytes i high low p q r h high_is q-is low-is r-is =
+    → puts (hex_of (drop (i + 1) bytes)) r ≡ puts (hex_of (drop i bytes)) p
+unfolding puts hex_of
+hex_next bytes i high low p q r h high_is q-is low-is r-is =
     rw (r-is, q-is, high_is, low-is, add-one, drop-cons bytes i 0)
 
 -- The same for numbers, each behind a space.
 pub listed_next : (ns : List ℕ) (i : ℕ) (p q : Page) → i < length ns → q ≡ puts (spaced (digits (get_or ns i 0))) p
     → puts (listed (drop (i + 1) ns)) q ≡ puts (listed (drop i ns)) p
 unfolding listed
-listed_next ns i p q h e = rw (drop-cons ns i 0 h, add-one, puts-append, e)
+listed_next ns i p q h e = rw (drop-cons ns i 0 h, add-one, puts_append, e)
 
 -- How many digits there may be does not matter where there may be enough.
-enough : (m k n : ℕ) → n < m → n < k → digitsUpTo m n ≡ digitsUpTo k n
-unfolding digitsUpTo
+enough : (m k n : ℕ) → n < m → n < k → digits_up_to m n ≡ digits_up_to k n
+unfolding digits_up_to
 enough zero k n h g = absurd (omega arith)
 enough (suc m) zero n h g = absurd (omega arith)
 enough (suc m) (suc k) n h g =
     two_ways n 10 (λ l. rw (lt-ltb n 10 l)) (λ l. rw (le-ltb n 10 l, enough m k (n / 10) (omega arith) (omega arith)))
 
 -- A number below ten is its own digit.
-pub one-digit : (n : ℕ) → n < 10 → digits n ≡ (code "0" + n) ∷ []
-unfolding digits digitsUpTo
-one-digit n h = rw (lt-ltb n 10 h)
+pub one_digit : (n : ℕ) → n < 10 → digits n ≡ (code "0" + n) ∷ []
+unfolding digits digits_up_to
+one_digit n h = rw (lt-ltb n 10 h)
 
 -- Any other has the digits of its tenth and one more.
-pub more-digits : (n : ℕ) → 10 ≤ n → digits n ≡ digits (n / 10) ++ (code "0" + n % 10) ∷ []
-unfolding digits digitsUpTo
-more-digits n h = rw (le-ltb n 10 h, enough n (suc (n / 10)) (n / 10) (omega arith) (omega arith))
+pub more_digits : (n : ℕ) → 10 ≤ n → digits n ≡ digits (n / 10) ++ (code "0" + n % 10) ∷ []
+unfolding digits digits_up_to
+more_digits n h = rw (le-ltb n 10 h, enough n (suc (n / 10)) (n / 10) (omega arith) (omega arith))
 
 -- The two cases, as `decimal` writes them.
 pub wrote_one : (n : ℕ) (p q : Page) → n < 10 → q ≡ puts ((code "0" + n) ∷ []) p → q ≡ puts (digits n) p
-wrote_one n p q h e = rw (one-digit n h) e
+wrote_one n p q h e = rw (one_digit n h) e
 
-pub wrote-more : (n : ℕ) (p q r : Page) → 10 ≤ n
+pub wrote_more : (n : ℕ) (p q r : Page) → 10 ≤ n
     → q ≡ puts (digits (n / 10)) p
     → r ≡ puts ((code "0" + n % 10) ∷ []) q
     → r ≡ puts (digits n) p
-wrote-more n p q r h e f = rw (more-digits n h) (after _ _ p q r e f)
+wrote_more n p q r h e f = rw (more_digits n h) (after _ _ p q r e f)
 
 -- Where there is room, the bytes are stored one after the other.
 stored : (text bytes : List ℕ) (at : ℕ) → at + length text ≤ length bytes
@@ -97,14 +97,14 @@ pub written : (text bytes : List ℕ) (at : ℕ) → at + length text ≤ length
 written text bytes at h = stored text bytes at h ∙ rw (sets-eq text bytes at h)
 
 -- A number below a power of ten has no more digits than the power.
-pub digits-length : (k n : ℕ) → n < 10 ^ suc k → length (digits n) ≤ suc k
-digits-length zero n h = rw (one-digit n h) (omega arith)
-digits-length (suc k) n h =
-    two_ways n 10 (λ l. rw (one-digit n l) (omega arith))
-    (λ l. rw (more-digits n l, length-append) (omega (arith, pow-suc 10 (suc k), digits-length k (n / 10) (omega (arith, pow-suc 10 (suc k))))))
+pub digits_length : (k n : ℕ) → n < 10 ^ suc k → length (digits n) ≤ suc k
+digits_length zero n h = rw (one_digit n h) (omega arith)
+digits_length (suc k) n h =
+    two_ways n 10 (λ l. rw (one_digit n l) (omega arith))
+    (λ l. rw (more_digits n l, length-append) (omega (arith, pow-suc 10 (suc k), digits_length k (n / 10) (omega (arith, pow-suc 10 (suc k))))))
 
 -- Two digits of hex a byte.
-pub hex-length : (bytes : List ℕ) → length (hexOf bytes) ≡ 2 * length bytes
-unfolding hexOf
-hex-length [] = refl
-hex-length (byte ∷ bytes) = omega (arith, hex-length bytes)
+pub hex_length : (bytes : List ℕ) → length (hex_of bytes) ≡ 2 * length bytes
+unfolding hex_of
+hex_length [] = refl
+hex_length (byte ∷ bytes) = omega (arith, hex_length bytes)

@@ -30,24 +30,24 @@ word stop = []
 word (letter then letters) = code letter ∷ word letters
 
 -- A number in decimal: the digits of its tenth, where it has one, and then its last; `most` is how many there may be.
-unfoldable pub digitsUpTo : ℕ → ℕ → List ℕ
-digitsUpTo zero n = []
-digitsUpTo (suc most) n =
+unfoldable pub digits_up_to : ℕ → ℕ → List ℕ
+digits_up_to zero n = []
+digits_up_to (suc most) n =
     if ltb n 10 then (code "0" + n) ∷ []
-    else digitsUpTo most (n / 10) ++ (code "0" + n % 10) ∷ []
+    else digits_up_to most (n / 10) ++ (code "0" + n % 10) ∷ []
 
 -- No number has more digits than itself and one.
 unfoldable pub digits : ℕ → List ℕ
-digits n = digitsUpTo (suc n) n
+digits n = digits_up_to (suc n) n
 
 -- A hex digit: 0 to 9, then a to f.
-unfoldable pub hexDigit : ℕ → ℕ
-hexDigit n = if ltb n 10 then code "0" + n else code "a" + (n - 10)
+unfoldable pub hex_digit : ℕ → ℕ
+hex_digit n = if ltb n 10 then code "0" + n else code "a" + (n - 10)
 
 -- Bytes in lower-case hex, two digits each.
-unfoldable pub hexOf : List ℕ → List ℕ
-hexOf [] = []
-hexOf (byte ∷ bytes) = hexDigit (byte / 16) ∷ hexDigit (byte % 16) ∷ hexOf bytes
+unfoldable pub hex_of : List ℕ → List ℕ
+hex_of [] = []
+hex_of (byte ∷ bytes) = hex_digit (byte / 16) ∷ hex_digit (byte % 16) ∷ hex_of bytes
 
 -- A word behind a space.
 unfoldable pub spaced : List ℕ → List ℕ
@@ -68,7 +68,7 @@ run ticks text = word "t*" ++ (digits ticks ++ (spaced text ++ word "\n"))
 
 -- `d`: the 256 registers in hex.
 abbrev pub dump : List ℕ → List ℕ
-dump image = line (code "d") (hexOf image)
+dump image = line (code "d") (hex_of image)
 
 -- An event or `d` where there is no switch.
 abbrev pub none : ℕ → List ℕ

@@ -1,7 +1,8 @@
 // What is written, on a page: lent bytes, and the place where the next one goes. Each function answers the place behind what it
 // wrote; what has no room is left out.
+#![tactic(auto)]
 ghost use Rattle.std.specs.Prelude.{◌≡◌, ◌<◌, [], ◌∷◌, take, drop};
-ghost use Rattle.page.specs.Page.{page_of, puts, word, digits, hexDigit, hexOf, spaced, listed, run, dump, none, unread};
+ghost use Rattle.page.specs.Page.{page_of, puts, word, digits, hex_digit, hex_of, spaced, listed, run, dump, none, unread};
 
 // A run of ticks whose rows are equal.
 pub fn run(page: &mut [u8], at: usize, ticks: u64, row: &[u8]) -> usize
@@ -103,7 +104,7 @@ pub fn decimal(page: &mut [u8], at: usize, n: u64) -> usize
 }
 
 pub fn hex(page: &mut [u8], at: usize, bytes: &[u8]) -> usize
-    ensures { page_of page.new result ≡ puts (hexOf bytes.now) (page_of page.old at) }
+    ensures { page_of page.new result ≡ puts (hex_of bytes.now) (page_of page.old at) }
 {
     let mut next = at;
     let mut i = 0;
@@ -118,7 +119,7 @@ pub fn hex(page: &mut [u8], at: usize, bytes: &[u8]) -> usize
 
 fn hex_digit(n: u8) -> u8
     requires { n < 16 }
-    ensures { result ≡ hexDigit n }
+    ensures { result ≡ hex_digit n }
 {
     if n < 10 {
         return b'0' + n;

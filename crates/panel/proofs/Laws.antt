@@ -12,243 +12,243 @@ use borrow.Author.Tests.{eqb-true}
 use Rattle.words.specs.Words.{if◌then◌else◌, kept_at}
 use Rattle.words.proofs.Laws.{neither, kept_back, kept_same, other_place}
 use Rattle.timers.specs.Timers.{less}
-use Rattle.paddle.specs.Paddle.{paddle, freshPaddle, down, pressed, released, gestureUp, ends, closing, completed, gesture, left, tapsKept, nextPaddle}
+use Rattle.paddle.specs.Paddle.{paddle, fresh_paddle, down, pressed, released, gesture_up, ends, closing, completed, gesture, left, taps_kept, next_paddle}
 use Rattle.paddle.specs.declared.Contact.{Contact}
 use Rattle.paddle.specs.declared.Gesture.{Gesture}
 use Rattle.paddle.specs.declared.Gesture.TheVariants.{Nothing, Taps, Hold, Release}
 use Rattle.paddle.specs.declared.Paddle.{Paddle}
 use Rattle.paddle.specs.declared.Turn.{Turn}
-use Rattle.paddle.specs.Code.{turn, completesNothing}
-use Rattle.model.specs.Model.{paddleCount, paddleOf, kind_of}
-use Rattle.panel.specs.Panel.{localIn, slaveIn, contactsNumber, contactsIndex, tapsIndex, holdIndex, gapIndex, byte_count, paddleFrom, paddlesFrom, paddlesOf}
-use Rattle.panel.specs.Panel.{keptContacts, keptPaddle, keptFrom, keptPaddles, pressedAt, releasedAt, gestureAt, freshFrom, freshPaddles}
-use Rattle.panel.specs.Code.{Lifts, loudAt, loudFrom, quietBytes, leftBy, usedUp, ranAt, ranFrom, ranBytes, TicksAt}
+use Rattle.paddle.specs.Code.{turn, completes_nothing}
+use Rattle.model.specs.Model.{paddle_count, paddle_of, kind_of}
+use Rattle.panel.specs.Panel.{local_in, slave_in, contacts_number, contacts_index, taps_index, hold_index, gap_index, byte_count, paddle_from, paddles_from, paddles_of}
+use Rattle.panel.specs.Panel.{kept_contacts, kept_paddle, kept_from, kept_paddles, pressed_at, released_at, gesture_at, fresh_from, fresh_paddles}
+use Rattle.panel.specs.Code.{Lifts, loud_at, loud_from, quiet_bytes, left_by, used_up, ran_at, ran_from, ran_bytes, TicksAt}
 
 -- The contacts in a number and back.
-contacts-back : (x : Bool × Bool) → (localIn (contactsNumber x.0 x.1), slaveIn (contactsNumber x.0 x.1)) ≡ x
-unfolding localIn slaveIn contactsNumber
-contacts-back (true, true) = refl
-contacts-back (true, false) = refl
-contacts-back (false, true) = refl
-contacts-back (false, false) = refl
+contacts_back : (x : Bool × Bool) → (local_in (contacts_number x.0 x.1), slave_in (contacts_number x.0 x.1)) ≡ x
+unfolding local_in slave_in contacts_number
+contacts_back (true, true) = refl
+contacts_back (true, false) = refl
+contacts_back (false, true) = refl
+contacts_back (false, false) = refl
 
-contacts-kept :
+contacts_kept :
     (x : Bool × Bool) (old : ℕ)
-    → let new = contactsNumber x.0 x.1 in
-    let n = if eqb (contactsNumber (localIn old) (slaveIn old)) new then old else new in
-    (localIn n, slaveIn n) ≡ x
-contacts-kept = kept_back (Bool × Bool) (λ n. (localIn n, slaveIn n)) (λ x. contactsNumber x.0 x.1) contacts-back
+    → let new = contacts_number x.0 x.1 in
+    let n = if eqb (contacts_number (local_in old) (slave_in old)) new then old else new in
+    (local_in n, slave_in n) ≡ x
+contacts_kept = kept_back (Bool × Bool) (λ n. (local_in n, slave_in n)) (λ x. contacts_number x.0 x.1) contacts_back
 
 -- A paddle that is kept as it was read.
-pub paddle-same : (i : ℕ) (l : List ℕ) → keptPaddle i (paddleFrom i l) l ≡ l
-unfolding keptPaddle keptContacts paddleFrom
-paddle-same i l = simp (kept_same, set-get_or)
+pub paddle_same : (i : ℕ) (l : List ℕ) → kept_paddle i (paddle_from i l) l ≡ l
+unfolding kept_paddle kept_contacts paddle_from
+paddle_same i l = simp (kept_same, set-get_or)
 
-from-same : (i n : ℕ) (l : List ℕ) → keptFrom i (paddlesFrom i n l) l ≡ l
-unfolding keptFrom paddlesFrom
-from-same i zero l = refl
-from-same i (suc n) l =
-    ap (λ (m : List ℕ). keptFrom (suc i) (paddlesFrom (suc i) n l) m) (paddle-same i l) ∙ from-same (suc i) n l
+from_same : (i n : ℕ) (l : List ℕ) → kept_from i (paddles_from i n l) l ≡ l
+unfolding kept_from paddles_from
+from_same i zero l = refl
+from_same i (suc n) l =
+    ap (λ (m : List ℕ). kept_from (suc i) (paddles_from (suc i) n l) m) (paddle_same i l) ∙ from_same (suc i) n l
 
-pub paddles-same : (l : List ℕ) → keptPaddles (paddlesOf l) l ≡ l
-paddles-same l = from-same 0 paddleCount l
+pub paddles_same : (l : List ℕ) → kept_paddles (paddles_of l) l ≡ l
+paddles_same l = from_same 0 paddle_count l
 
 -- A paddle that is kept leaves the bytes of the others alone.
 bytes_apart :
     (i : ℕ) (p : Paddle) (l : List ℕ) (place : ℕ)
-    → (place ≡ contactsIndex i → ⊥)
-    → (place ≡ tapsIndex i → ⊥)
-    → (place ≡ holdIndex i → ⊥)
-    → (place ≡ gapIndex i → ⊥)
-    → get_or (keptPaddle i p l) place 0 ≡ get_or l place 0
-unfolding keptPaddle keptContacts kept_at
+    → (place ≡ contacts_index i → ⊥)
+    → (place ≡ taps_index i → ⊥)
+    → (place ≡ hold_index i → ⊥)
+    → (place ≡ gap_index i → ⊥)
+    → get_or (kept_paddle i p l) place 0 ≡ get_or l place 0
+unfolding kept_paddle kept_contacts kept_at
 bytes_apart i p l place contacts taps hold gap =
     rw (
-      other_place _ (gapIndex i) _ place gap,
-      other_place _ (holdIndex i) _ place hold,
-      other_place _ (tapsIndex i) _ place taps,
-      other_place l (contactsIndex i) _ place contacts,
+      other_place _ (gap_index i) _ place gap,
+      other_place _ (hold_index i) _ place hold,
+      other_place _ (taps_index i) _ place taps,
+      other_place l (contacts_index i) _ place contacts,
     )
 
-paddle-apart : (i j : ℕ) (p : Paddle) (l : List ℕ) → (i ≡ j → ⊥) → i < paddleCount → j < paddleCount → paddleFrom j (keptPaddle i p l) ≡ paddleFrom j l
-unfolding paddleFrom
-paddle-apart i j p l other h k =
+paddle_apart : (i j : ℕ) (p : Paddle) (l : List ℕ) → (i ≡ j → ⊥) → i < paddle_count → j < paddle_count → paddle_from j (kept_paddle i p l) ≡ paddle_from j l
+unfolding paddle_from
+paddle_apart i j p l other h k =
     rw (
-      bytes_apart i p l (contactsIndex j) (λ e. other (omega arith)) (λ e. omega arith) (λ e. omega arith) (λ e. omega arith),
-      bytes_apart i p l (tapsIndex j) (λ e. omega arith) (λ e. other (omega arith)) (λ e. omega arith) (λ e. omega arith),
-      bytes_apart i p l (holdIndex j) (λ e. omega arith) (λ e. omega arith) (λ e. other (omega arith)) (λ e. omega arith),
-      bytes_apart i p l (gapIndex j) (λ e. omega arith) (λ e. omega arith) (λ e. omega arith) (λ e. other (omega arith)),
+      bytes_apart i p l (contacts_index j) (λ e. other (omega arith)) (λ e. omega arith) (λ e. omega arith) (λ e. omega arith),
+      bytes_apart i p l (taps_index j) (λ e. omega arith) (λ e. other (omega arith)) (λ e. omega arith) (λ e. omega arith),
+      bytes_apart i p l (hold_index j) (λ e. omega arith) (λ e. omega arith) (λ e. other (omega arith)) (λ e. omega arith),
+      bytes_apart i p l (gap_index j) (λ e. omega arith) (λ e. omega arith) (λ e. omega arith) (λ e. other (omega arith)),
     )
 
-pub from-apart : (i n j : ℕ) (p : Paddle) (l : List ℕ) → j < i → i + n ≤ paddleCount → paddlesFrom i n (keptPaddle j p l) ≡ paddlesFrom i n l
-unfolding paddlesFrom
-from-apart i zero j p l low fits = refl
-from-apart i (suc n) j p l low fits =
+pub from_apart : (i n j : ℕ) (p : Paddle) (l : List ℕ) → j < i → i + n ≤ paddle_count → paddles_from i n (kept_paddle j p l) ≡ paddles_from i n l
+unfolding paddles_from
+from_apart i zero j p l low fits = refl
+from_apart i (suc n) j p l low fits =
     rw (
-      paddle-apart j i p l (λ e. omega arith) (omega arith) (omega arith),
-      from-apart (suc i) n j p l (omega arith) (omega arith),
+      paddle_apart j i p l (λ e. omega arith) (omega arith) (omega arith),
+      from_apart (suc i) n j p l (omega arith) (omega arith),
     )
 
-kept-below : (i j : ℕ) (ps : List Paddle) (l : List ℕ) → j < i → i + length ps ≤ paddleCount → paddleFrom j (keptFrom i ps l) ≡ paddleFrom j l
-unfolding keptFrom
-kept-below i j [] l low fits = refl
-kept-below i j (p ∷ ps) l low fits =
-    kept-below (suc i) j ps (keptPaddle i p l) (omega arith) (omega arith) ∙ paddle-apart i j p l (λ e. omega arith) (omega arith) (omega arith)
+kept_below : (i j : ℕ) (ps : List Paddle) (l : List ℕ) → j < i → i + length ps ≤ paddle_count → paddle_from j (kept_from i ps l) ≡ paddle_from j l
+unfolding kept_from
+kept_below i j [] l low fits = refl
+kept_below i j (p ∷ ps) l low fits =
+    kept_below (suc i) j ps (kept_paddle i p l) (omega arith) (omega arith) ∙ paddle_apart i j p l (λ e. omega arith) (omega arith) (omega arith)
 
 -- What is kept leaves as many bytes as there were.
-paddle-length : (i : ℕ) (p : Paddle) (l : List ℕ) → length (keptPaddle i p l) ≡ length l
-unfolding keptPaddle keptContacts kept_at
-paddle-length i p l = simp length-set
+paddle_length : (i : ℕ) (p : Paddle) (l : List ℕ) → length (kept_paddle i p l) ≡ length l
+unfolding kept_paddle kept_contacts kept_at
+paddle_length i p l = simp length-set
 
-from-length : (i : ℕ) (ps : List Paddle) (l : List ℕ) → length (keptFrom i ps l) ≡ length l
-unfolding keptFrom
-from-length i [] l = refl
-from-length i (p ∷ ps) l = from-length (suc i) ps (keptPaddle i p l) ∙ paddle-length i p l
+from_length : (i : ℕ) (ps : List Paddle) (l : List ℕ) → length (kept_from i ps l) ≡ length l
+unfolding kept_from
+from_length i [] l = refl
+from_length i (p ∷ ps) l = from_length (suc i) ps (kept_paddle i p l) ∙ paddle_length i p l
 
-pub paddles-length : (ps : List Paddle) (l : List ℕ) → length (keptPaddles ps l) ≡ length l
-paddles-length ps l = from-length 0 ps l
+pub paddles_length : (ps : List Paddle) (l : List ℕ) → length (kept_paddles ps l) ≡ length l
+paddles_length ps l = from_length 0 ps l
 
 -- A paddle in its bytes and back.
-paddle-back : (i : ℕ) (p : Paddle) (l : List ℕ) → length l ≡ byte_count → i < paddleCount → paddleFrom i (keptPaddle i p l) ≡ p
-unfolding paddleFrom keptPaddle keptContacts kept_at
-paddle-back i p l long h =
-    let new = contactsNumber p.local p.slave in
-    let old = get_or l (contactsIndex i) 0 in
-    let n = if eqb (contactsNumber (localIn old) (slaveIn old)) new then old else new in
-    let a = set l (contactsIndex i) n in
-    let b = set a (tapsIndex i) p.taps in
-    let c = set b (holdIndex i) p.hold in
+paddle_back : (i : ℕ) (p : Paddle) (l : List ℕ) → length l ≡ byte_count → i < paddle_count → paddle_from i (kept_paddle i p l) ≡ p
+unfolding paddle_from kept_paddle kept_contacts kept_at
+paddle_back i p l long h =
+    let new = contacts_number p.local p.slave in
+    let old = get_or l (contacts_index i) 0 in
+    let n = if eqb (contacts_number (local_in old) (slave_in old)) new then old else new in
+    let a = set l (contacts_index i) n in
+    let b = set a (taps_index i) p.taps in
+    let c = set b (hold_index i) p.hold in
     let long-a : length a ≡ byte_count = length-set l _ _ ∙ long in
     let long-b : length b ≡ byte_count = length-set a _ _ ∙ long-a in
     let long-c : length c ≡ byte_count = length-set b _ _ ∙ long-b in
-    let contacts : get_or (set c (gapIndex i) p.gap) (contactsIndex i) 0 ≡ n =
+    let contacts : get_or (set c (gap_index i) p.gap) (contacts_index i) 0 ≡ n =
     rw (
-      other_place c (gapIndex i) p.gap (contactsIndex i) (λ e. omega arith),
-      other_place b (holdIndex i) p.hold (contactsIndex i) (λ e. omega arith),
-      other_place a (tapsIndex i) p.taps (contactsIndex i) (λ e. omega arith),
+      other_place c (gap_index i) p.gap (contacts_index i) (λ e. omega arith),
+      other_place b (hold_index i) p.hold (contacts_index i) (λ e. omega arith),
+      other_place a (taps_index i) p.taps (contacts_index i) (λ e. omega arith),
     )
-    (get_or-set_same l (contactsIndex i) n 0 (omega arith)) in
-    let taps : get_or (set c (gapIndex i) p.gap) (tapsIndex i) 0 ≡ p.taps =
+    (get_or-set_same l (contacts_index i) n 0 (omega arith)) in
+    let taps : get_or (set c (gap_index i) p.gap) (taps_index i) 0 ≡ p.taps =
     rw (
-      other_place c (gapIndex i) p.gap (tapsIndex i) (λ e. omega arith),
-      other_place b (holdIndex i) p.hold (tapsIndex i) (λ e. omega arith),
+      other_place c (gap_index i) p.gap (taps_index i) (λ e. omega arith),
+      other_place b (hold_index i) p.hold (taps_index i) (λ e. omega arith),
     )
-    (get_or-set_same a (tapsIndex i) p.taps 0 (omega arith)) in
-    let hold : get_or (set c (gapIndex i) p.gap) (holdIndex i) 0 ≡ p.hold =
-    rw (other_place c (gapIndex i) p.gap (holdIndex i) (λ e. omega arith)) (get_or-set_same b (holdIndex i) p.hold 0 (omega arith)) in
-    let gap : get_or (set c (gapIndex i) p.gap) (gapIndex i) 0 ≡ p.gap = get_or-set_same c (gapIndex i) p.gap 0 (omega arith) in
-    let both = contacts-kept (p.local, p.slave) old in
-    let local = ap localIn contacts ∙ ap (λ (x : Bool × Bool). x.0) both in
-    let slave = ap slaveIn contacts ∙ ap (λ (x : Bool × Bool). x.1) both in
+    (get_or-set_same a (taps_index i) p.taps 0 (omega arith)) in
+    let hold : get_or (set c (gap_index i) p.gap) (hold_index i) 0 ≡ p.hold =
+    rw (other_place c (gap_index i) p.gap (hold_index i) (λ e. omega arith)) (get_or-set_same b (hold_index i) p.hold 0 (omega arith)) in
+    let gap : get_or (set c (gap_index i) p.gap) (gap_index i) 0 ≡ p.gap = get_or-set_same c (gap_index i) p.gap 0 (omega arith) in
+    let both = contacts_kept (p.local, p.slave) old in
+    let local = ap local_in contacts ∙ ap (λ (x : Bool × Bool). x.0) both in
+    let slave = ap slave_in contacts ∙ ap (λ (x : Bool × Bool). x.1) both in
     λ k. paddle (local k) (slave k) (hold k) (gap k) (taps k)
 
-from_back : (i : ℕ) (ps : List Paddle) (l : List ℕ) → length l ≡ byte_count → i + length ps ≤ paddleCount → paddlesFrom i (length ps) (keptFrom i ps l) ≡ ps
-unfolding paddlesFrom keptFrom
+from_back : (i : ℕ) (ps : List Paddle) (l : List ℕ) → length l ≡ byte_count → i + length ps ≤ paddle_count → paddles_from i (length ps) (kept_from i ps l) ≡ ps
+unfolding paddles_from kept_from
 from_back i [] l long fits = refl
 from_back i (p ∷ ps) l long fits =
-    let next = keptPaddle i p l in
-    let head = kept-below (suc i) i ps next (omega arith) (omega arith) ∙ paddle-back i p l long (omega arith) in
-    let rest = from_back (suc i) ps next (paddle-length i p l ∙ long) (omega arith) in
+    let next = kept_paddle i p l in
+    let head = kept_below (suc i) i ps next (omega arith) (omega arith) ∙ paddle_back i p l long (omega arith) in
+    let rest = from_back (suc i) ps next (paddle_length i p l ∙ long) (omega arith) in
     λ k. head k ∷ rest k
 
-pub paddles-back : (l : List ℕ) (ps : List Paddle) → length l ≡ byte_count → length ps ≡ paddleCount → paddlesOf (keptPaddles ps l) ≡ ps
-paddles-back l ps long all = ap (λ (n : ℕ). paddlesFrom 0 n (keptPaddles ps l)) (sym all) ∙ from_back 0 ps l long (omega arith)
+pub paddles_back : (l : List ℕ) (ps : List Paddle) → length l ≡ byte_count → length ps ≡ paddle_count → paddles_of (kept_paddles ps l) ≡ ps
+paddles_back l ps long all = ap (λ (n : ℕ). paddles_from 0 n (kept_paddles ps l)) (sym all) ∙ from_back 0 ps l long (omega arith)
 
 -- How many paddles there are.
-from-count : (i n : ℕ) (l : List ℕ) → length (paddlesFrom i n l) ≡ n
-unfolding paddlesFrom
-from-count i zero l = refl
-from-count i (suc n) l = ap suc (from-count (suc i) n l)
+from_count : (i n : ℕ) (l : List ℕ) → length (paddles_from i n l) ≡ n
+unfolding paddles_from
+from_count i zero l = refl
+from_count i (suc n) l = ap suc (from_count (suc i) n l)
 
-pub count : (l : List ℕ) → length (paddlesOf l) ≡ paddleCount
-count l = from-count 0 paddleCount l
+pub count : (l : List ℕ) → length (paddles_of l) ≡ paddle_count
+count l = from_count 0 paddle_count l
 
-fresh-from : (n : ℕ) → length (freshFrom n) ≡ n
-unfolding freshFrom
-fresh-from zero = refl
-fresh-from (suc n) = ap suc (fresh-from n)
+fresh_from_lem : (n : ℕ) → length (fresh_from n) ≡ n
+unfolding fresh_from
+fresh_from_lem zero = refl
+fresh_from_lem (suc n) = ap suc (fresh_from_lem n)
 
-pub fresh-count : length freshPaddles ≡ paddleCount
-fresh-count = fresh-from paddleCount
+pub fresh_count : length fresh_paddles ≡ paddle_count
+fresh_count = fresh_from_lem paddle_count
 
-pub pressed-count : (contact : ℕ) (ps : List Paddle) → length (pressedAt contact ps) ≡ length ps
-unfolding pressedAt
-pressed-count contact ps = length-set ps (paddleOf contact) _
+pub pressed_count : (contact : ℕ) (ps : List Paddle) → length (pressed_at contact ps) ≡ length ps
+unfolding pressed_at
+pressed_count contact ps = length-set ps (paddle_of contact) _
 
-pub released-count : (contact : ℕ) (ps : List Paddle) → length (releasedAt contact ps) ≡ length ps
-unfolding releasedAt
-released-count contact ps = length-set ps (paddleOf contact) _
+pub released_count : (contact : ℕ) (ps : List Paddle) → length (released_at contact ps) ≡ length ps
+unfolding released_at
+released_count contact ps = length-set ps (paddle_of contact) _
 
-pub next-count : (l : List ℕ) → length (map nextPaddle (paddlesOf l)) ≡ paddleCount
-next-count l = length-map (paddlesOf l) nextPaddle ∙ count l
+pub next_count : (l : List ℕ) → length (map next_paddle (paddles_of l)) ≡ paddle_count
+next_count l = length-map (paddles_of l) next_paddle ∙ count l
 
 -- One paddle of them, read and kept.
-from_at : (i n j : ℕ) (l : List ℕ) → j < n → get_or (paddlesFrom i n l) j freshPaddle ≡ paddleFrom (i + j) l
-unfolding paddlesFrom
+from_at : (i n j : ℕ) (l : List ℕ) → j < n → get_or (paddles_from i n l) j fresh_paddle ≡ paddle_from (i + j) l
+unfolding paddles_from
 from_at i zero j l h = absurd (omega arith)
-from_at i (suc n) zero l h = ap (λ (k : ℕ). paddleFrom k l) (omega arith)
-from_at i (suc n) (suc j) l h = from_at (suc i) n j l (omega arith) ∙ ap (λ (k : ℕ). paddleFrom k l) (omega arith)
+from_at i (suc n) zero l h = ap (λ (k : ℕ). paddle_from k l) (omega arith)
+from_at i (suc n) (suc j) l h = from_at (suc i) n j l (omega arith) ∙ ap (λ (k : ℕ). paddle_from k l) (omega arith)
 
-pub paddle-at : (i : ℕ) (l : List ℕ) → i < paddleCount → get_or (paddlesOf l) i freshPaddle ≡ paddleFrom i l
-paddle-at i l h = from_at 0 paddleCount i l h ∙ ap (λ (k : ℕ). paddleFrom k l) (omega arith)
+pub paddle_at_lem : (i : ℕ) (l : List ℕ) → i < paddle_count → get_or (paddles_of l) i fresh_paddle ≡ paddle_from i l
+paddle_at_lem i l h = from_at 0 paddle_count i l h ∙ ap (λ (k : ℕ). paddle_from k l) (omega arith)
 
 one_from :
-    (i n j : ℕ) (p : Paddle) (l : List ℕ) → j < n → i + n ≤ paddleCount
-    → keptFrom i (set (paddlesFrom i n l) j p) l ≡ keptPaddle (i + j) p l
-unfolding keptFrom paddlesFrom
+    (i n j : ℕ) (p : Paddle) (l : List ℕ) → j < n → i + n ≤ paddle_count
+    → kept_from i (set (paddles_from i n l) j p) l ≡ kept_paddle (i + j) p l
+unfolding kept_from paddles_from
 one_from i zero j p l h fits = absurd (omega arith)
 one_from i (suc n) zero p l h fits =
-    ap (λ (ps : List Paddle). keptFrom (suc i) ps (keptPaddle i p l)) (sym (from-apart (suc i) n i p l (omega arith) (omega arith)))
-    ∙ from-same (suc i) n (keptPaddle i p l)
-    ∙ ap (λ (k : ℕ). keptPaddle k p l) (omega arith)
+    ap (λ (ps : List Paddle). kept_from (suc i) ps (kept_paddle i p l)) (sym (from_apart (suc i) n i p l (omega arith) (omega arith)))
+    ∙ from_same (suc i) n (kept_paddle i p l)
+    ∙ ap (λ (k : ℕ). kept_paddle k p l) (omega arith)
 one_from i (suc n) (suc j) p l h fits =
-    ap (λ (m : List ℕ). keptFrom (suc i) (set (paddlesFrom (suc i) n l) j p) m) (paddle-same i l)
+    ap (λ (m : List ℕ). kept_from (suc i) (set (paddles_from (suc i) n l) j p) m) (paddle_same i l)
     ∙ one_from (suc i) n j p l (omega arith) (omega arith)
-    ∙ ap (λ (k : ℕ). keptPaddle k p l) (omega arith)
+    ∙ ap (λ (k : ℕ). kept_paddle k p l) (omega arith)
 
-pub one_kept : (i : ℕ) (p : Paddle) (l : List ℕ) → i < paddleCount → keptPaddles (set (paddlesOf l) i p) l ≡ keptPaddle i p l
-one_kept i p l h = one_from 0 paddleCount i p l h (omega arith) ∙ ap (λ (k : ℕ). keptPaddle k p l) (omega arith)
+pub one_kept : (i : ℕ) (p : Paddle) (l : List ℕ) → i < paddle_count → kept_paddles (set (paddles_of l) i p) l ≡ kept_paddle i p l
+one_kept i p l h = one_from 0 paddle_count i p l h (omega arith) ∙ ap (λ (k : ℕ). kept_paddle k p l) (omega arith)
 
 -- An edge keeps one paddle, and that is to keep all.
-pub paddle-low : (contact : ℕ) → paddleOf contact < paddleCount
-unfolding paddleOf
-paddle-low contact = omega arith
+pub paddle_low : (contact : ℕ) → paddle_of contact < paddle_count
+unfolding paddle_of
+paddle_low contact = omega arith
 
-pub press-kept :
+pub press_kept :
     (contact : ℕ) (l : List ℕ) (i : ℕ) (p : Paddle) (kind : Contact) (q : Paddle) (l' : List ℕ)
-    → i ≡ paddleOf contact
-    → p ≡ paddleFrom i l
+    → i ≡ paddle_of contact
+    → p ≡ paddle_from i l
     → kind ≡ kind_of contact
     → q ≡ pressed kind p
-    → l' ≡ keptPaddle i q l
-    → l' ≡ keptPaddles (pressedAt contact (paddlesOf l)) l
-unfolding pressedAt
-press-kept contact l i p kind q l' place read which after kept =
-    rw (paddle-at (paddleOf contact) l (paddle-low contact), one_kept (paddleOf contact) (pressed (kind_of contact) (paddleFrom (paddleOf contact) l)) l (paddle-low contact))
+    → l' ≡ kept_paddle i q l
+    → l' ≡ kept_paddles (pressed_at contact (paddles_of l)) l
+unfolding pressed_at
+press_kept contact l i p kind q l' place read which after kept =
+    rw (paddle_at_lem (paddle_of contact) l (paddle_low contact), one_kept (paddle_of contact) (pressed (kind_of contact) (paddle_from (paddle_of contact) l)) l (paddle_low contact))
     (kept ∙ rw (after, which, read, place))
 
-pub release-kept :
+pub release_kept :
     (contact : ℕ) (l : List ℕ) (i : ℕ) (p : Paddle) (kind : Contact) (t : Turn) (l' : List ℕ)
-    → i ≡ paddleOf contact
-    → p ≡ paddleFrom i l
+    → i ≡ paddle_of contact
+    → p ≡ paddle_from i l
     → kind ≡ kind_of contact
-    → t ≡ turn (released kind p) (gestureUp kind p)
-    → l' ≡ keptPaddle i t.paddle l
+    → t ≡ turn (released kind p) (gesture_up kind p)
+    → l' ≡ kept_paddle i t.paddle l
     → Lifts contact l t.gesture l'
-unfolding releasedAt gestureAt
-release-kept contact l i p kind t l' place read which after kept =
-    let at = paddle-at (paddleOf contact) l (paddle-low contact) in
+unfolding released_at gesture_at
+release_kept contact l i p kind t l' place read which after kept =
+    let at = paddle_at_lem (paddle_of contact) l (paddle_low contact) in
     record {
       completed = rw (at, after, which, read, place);
       paddles =
-          rw (at, one_kept (paddleOf contact) (released (kind_of contact) (paddleFrom (paddleOf contact) l)) l (paddle-low contact))
+          rw (at, one_kept (paddle_of contact) (released (kind_of contact) (paddle_from (paddle_of contact) l)) l (paddle_low contact))
           (kept ∙ rw (after, which, read, place));
     }
 
 -- Contacts hold the paddle down unless their two low bits are 0.
-pub down-contacts : (contacts : ℕ) → (localIn contacts || slaveIn contacts) ≡ not (eqb (contacts % 4) 0)
-unfolding localIn slaveIn
-down-contacts contacts =
+pub down_contacts : (contacts : ℕ) → (local_in contacts || slave_in contacts) ≡ not (eqb (contacts % 4) 0)
+unfolding local_in slave_in
+down_contacts contacts =
     let local : contacts % 2 ≡ contacts % 4 % 2 = omega arith in
     let slave : contacts / 2 % 2 ≡ contacts % 4 / 2 = omega (arith, div-div-eq-div-mul contacts 2 2) in
     rw (local, slave) (go (contacts % 4) (omega arith))
@@ -261,24 +261,24 @@ down-contacts contacts =
     go (suc (suc (suc (suc n)))) h = absurd (omega arith)
 
 -- Loud is 'completes a gesture'.
-pub loud-gesture : (i : ℕ) (l : List ℕ) → loudAt i l ≡ not (completesNothing (gesture (paddleFrom i l)))
-unfolding loudAt paddleFrom down ends completed closing gesture completesNothing
-loud-gesture i l =
-    let taps = get_or l (tapsIndex i) 0 in
-    rw (down-contacts (get_or l (contactsIndex i) 0))
-    (go taps (eqb (get_or l (contactsIndex i) 0 % 4) 0) (eqb (get_or l (holdIndex i) 0) 1) (leb (get_or l (gapIndex i) 0) 1) (eqb taps 0))
+pub loud_gesture : (i : ℕ) (l : List ℕ) → loud_at i l ≡ not (completes_nothing (gesture (paddle_from i l)))
+unfolding loud_at paddle_from down ends completed closing gesture completes_nothing
+loud_gesture i l =
+    let taps = get_or l (taps_index i) 0 in
+    rw (down_contacts (get_or l (contacts_index i) 0))
+    (go taps (eqb (get_or l (contacts_index i) 0 % 4) 0) (eqb (get_or l (hold_index i) 0) 1) (leb (get_or l (gap_index i) 0) 1) (eqb taps 0))
   where
     go : (taps : ℕ) (up held closed none : Bool)
         → (if up then closed && not none else held)
-        ≡ not (completesNothing (if (if not up then held else closed) then (if not up then Hold else if none then Nothing else Taps taps) else Nothing))
+        ≡ not (completes_nothing (if (if not up then held else closed) then (if not up then Hold else if none then Nothing else Taps taps) else Nothing))
     go taps true held true true = refl
     go taps true held true false = refl
     go taps true held false none = refl
     go taps false true closed none = refl
     go taps false false closed none = refl
 
-nothing : (g : Gesture) → completesNothing g ≡ true → g ≡ Nothing
-unfolding completesNothing
+nothing : (g : Gesture) → completes_nothing g ≡ true → g ≡ Nothing
+unfolding completes_nothing
 nothing Nothing h = refl
 nothing (Taps n) h = absurd (true≢false (sym h))
 nothing Hold h = absurd (true≢false (sym h))
@@ -292,30 +292,30 @@ not-false : (b : Bool) → not b ≡ false → b ≡ true
 not-false true h = refl
 not-false false h = absurd (true≢false h)
 
-quiet_at : (i : ℕ) (l : List ℕ) → loudAt i l ≡ false → completesNothing (gesture (paddleFrom i l)) ≡ true
-quiet_at i l h = not-false _ (sym (loud-gesture i l) ∙ h)
+quiet_at : (i : ℕ) (l : List ℕ) → loud_at i l ≡ false → completes_nothing (gesture (paddle_from i l)) ≡ true
+quiet_at i l h = not-false _ (sym (loud_gesture i l) ∙ h)
 
 -- Where the next tick is quiet no paddle has a gesture.
-quiet-from : (i n : ℕ) (l : List ℕ) → loudFrom i n l ≡ false → map gesture (paddlesFrom i n l) ≡ replicate n Nothing
-unfolding loudFrom paddlesFrom
-quiet-from i zero l h = refl
-quiet-from i (suc n) l h =
-    let still = neither (loudAt i l) (loudFrom (suc i) n l) h in
-    let head = nothing (gesture (paddleFrom i l)) (quiet_at i l still.0) in
-    let rest = quiet-from (suc i) n l still.1 in
+quiet_from : (i n : ℕ) (l : List ℕ) → loud_from i n l ≡ false → map gesture (paddles_from i n l) ≡ replicate n Nothing
+unfolding loud_from paddles_from
+quiet_from i zero l h = refl
+quiet_from i (suc n) l h =
+    let still = neither (loud_at i l) (loud_from (suc i) n l) h in
+    let head = nothing (gesture (paddle_from i l)) (quiet_at i l still.0) in
+    let rest = quiet_from (suc i) n l still.1 in
     λ k. head k ∷ rest k
 
-pub quiet-gestures : (l : List ℕ) → quietBytes l ≡ true → map gesture (paddlesOf l) ≡ replicate paddleCount Nothing
-unfolding quietBytes
-quiet-gestures l h = quiet-from 0 paddleCount l (not-true _ h)
+pub quiet_gestures : (l : List ℕ) → quiet_bytes l ≡ true → map gesture (paddles_of l) ≡ replicate paddle_count Nothing
+unfolding quiet_bytes
+quiet_gestures l h = quiet_from 0 paddle_count l (not-true _ h)
 
 -- A gesture uses up the taps, and without one they stay.
-taps-left : (p : Paddle) → tapsKept p ≡ (if completesNothing (gesture p) then p.taps else 0)
-unfolding tapsKept gesture completed closing completesNothing
-taps-left p = go (ends p) (down p) (eqb p.taps 0) refl
+taps_left : (p : Paddle) → taps_kept p ≡ (if completes_nothing (gesture p) then p.taps else 0)
+unfolding taps_kept gesture completed closing completes_nothing
+taps_left p = go (ends p) (down p) (eqb p.taps 0) refl
   where
     go : (e d z : Bool) → eqb p.taps 0 ≡ z
-        → (if e then 0 else p.taps) ≡ (if completesNothing (if e then (if d then Hold else if z then Nothing else Taps p.taps) else Nothing) then p.taps else 0)
+        → (if e then 0 else p.taps) ≡ (if completes_nothing (if e then (if d then Hold else if z then Nothing else Taps p.taps) else Nothing) then p.taps else 0)
     go false d z same = refl
     go true true z same = refl
     go true false true same = sym (eqb-true p.taps 0 same)
@@ -325,82 +325,82 @@ swapped : {A : Type 0} (b : Bool) (x y : A) → (if not b then x else y) ≡ (if
 swapped true x y = refl
 swapped false x y = refl
 
-left-same : (i : ℕ) (l : List ℕ) → left (paddleFrom i l) ≡ leftBy (get_or l (contactsIndex i) 0) (get_or l (holdIndex i) 0)
-unfolding left leftBy down paddleFrom
-left-same i l = rw (down-contacts (get_or l (contactsIndex i) 0)) (swapped (eqb (get_or l (contactsIndex i) 0 % 4) 0) _ _)
+left_same : (i : ℕ) (l : List ℕ) → left (paddle_from i l) ≡ left_by (get_or l (contacts_index i) 0) (get_or l (hold_index i) 0)
+unfolding left left_by down paddle_from
+left_same i l = rw (down_contacts (get_or l (contacts_index i) 0)) (swapped (eqb (get_or l (contacts_index i) 0 % 4) 0) _ _)
 
-gap_same : (i : ℕ) (l : List ℕ) → (paddleFrom i l).gap ≡ get_or l (gapIndex i) 0
-unfolding paddleFrom
+gap_same : (i : ℕ) (l : List ℕ) → (paddle_from i l).gap ≡ get_or l (gap_index i) 0
+unfolding paddle_from
 gap_same i l = refl
 
-next-same :
+next_same :
     (i : ℕ) (l : List ℕ) (hold gap taps : ℕ)
-    → let p = paddleFrom i l in
-    keptPaddle i (paddle p.local p.slave hold gap taps) l ≡ set (set (set l (tapsIndex i) taps) (holdIndex i) hold) (gapIndex i) gap
-unfolding keptPaddle keptContacts paddleFrom
-next-same i l hold gap taps = simp kept_same
+    → let p = paddle_from i l in
+    kept_paddle i (paddle p.local p.slave hold gap taps) l ≡ set (set (set l (taps_index i) taps) (hold_index i) hold) (gap_index i) gap
+unfolding kept_paddle kept_contacts paddle_from
+next_same i l hold gap taps = simp kept_same
 
 -- A tick of a paddle: its gesture uses up the taps, and its timers run.
 ran_over :
-    (i : ℕ) (l : List ℕ) (taps : ℕ) → i < paddleCount
-    → let p = paddleFrom i l in
-    ranAt i (set l (tapsIndex i) taps) ≡ keptPaddle i (paddle p.local p.slave (left p) (less p.gap) taps) l
-unfolding ranAt
+    (i : ℕ) (l : List ℕ) (taps : ℕ) → i < paddle_count
+    → let p = paddle_from i l in
+    ran_at i (set l (taps_index i) taps) ≡ kept_paddle i (paddle p.local p.slave (left p) (less p.gap) taps) l
+unfolding ran_at
 ran_over i l taps low =
-    let p = paddleFrom i l in
-    let m = set l (tapsIndex i) taps in
+    let p = paddle_from i l in
+    let m = set l (taps_index i) taps in
     rw (
-      next-same i l (left p) (less p.gap) taps,
-      left-same i l,
+      next_same i l (left p) (less p.gap) taps,
+      left_same i l,
       gap_same i l,
-      other_place m (holdIndex i) (leftBy (get_or m (contactsIndex i) 0) (get_or m (holdIndex i) 0)) (gapIndex i) (λ e. omega arith),
-      other_place l (tapsIndex i) taps (contactsIndex i) (λ e. omega arith),
-      other_place l (tapsIndex i) taps (holdIndex i) (λ e. omega arith),
-      other_place l (tapsIndex i) taps (gapIndex i) (λ e. omega arith),
+      other_place m (hold_index i) (left_by (get_or m (contacts_index i) 0) (get_or m (hold_index i) 0)) (gap_index i) (λ e. omega arith),
+      other_place l (taps_index i) taps (contacts_index i) (λ e. omega arith),
+      other_place l (taps_index i) taps (hold_index i) (λ e. omega arith),
+      other_place l (taps_index i) taps (gap_index i) (λ e. omega arith),
     )
 
-ran-next :
-    (i : ℕ) (l : List ℕ) (taps : ℕ) → i < paddleCount → taps ≡ tapsKept (paddleFrom i l)
-    → ranAt i (set l (tapsIndex i) taps) ≡ keptPaddle i (nextPaddle (paddleFrom i l)) l
-unfolding nextPaddle
-ran-next i l taps low is = ap (λ (t : ℕ). ranAt i (set l (tapsIndex i) t)) is ∙ ran_over i l (tapsKept (paddleFrom i l)) low
+ran_next :
+    (i : ℕ) (l : List ℕ) (taps : ℕ) → i < paddle_count → taps ≡ taps_kept (paddle_from i l)
+    → ran_at i (set l (taps_index i) taps) ≡ kept_paddle i (next_paddle (paddle_from i l)) l
+unfolding next_paddle
+ran_next i l taps low is = ap (λ (t : ℕ). ran_at i (set l (taps_index i) t)) is ∙ ran_over i l (taps_kept (paddle_from i l)) low
 
-taps-same : (i : ℕ) (l : List ℕ) → set l (tapsIndex i) (paddleFrom i l).taps ≡ l
-unfolding paddleFrom
-taps-same i l = set-get_or l (tapsIndex i) 0
+taps_same : (i : ℕ) (l : List ℕ) → set l (taps_index i) (paddle_from i l).taps ≡ l
+unfolding paddle_from
+taps_same i l = set-get_or l (taps_index i) 0
 
-ran-still : (i : ℕ) (l : List ℕ) → i < paddleCount → completesNothing (gesture (paddleFrom i l)) ≡ true → ranAt i l ≡ keptPaddle i (nextPaddle (paddleFrom i l)) l
-ran-still i l low none = ap (ranAt i) (sym (taps-same i l)) ∙ ran-next i l (paddleFrom i l).taps low (sym (taps-left (paddleFrom i l) ∙ rw none))
+ran_still : (i : ℕ) (l : List ℕ) → i < paddle_count → completes_nothing (gesture (paddle_from i l)) ≡ true → ran_at i l ≡ kept_paddle i (next_paddle (paddle_from i l)) l
+ran_still i l low none = ap (ran_at i) (sym (taps_same i l)) ∙ ran_next i l (paddle_from i l).taps low (sym (taps_left (paddle_from i l) ∙ rw none))
 
-ran-at : (i : ℕ) (l : List ℕ) → i < paddleCount → loudAt i l ≡ false → ranAt i l ≡ keptPaddle i (nextPaddle (paddleFrom i l)) l
-ran-at i l low h = ran-still i l low (quiet_at i l h)
+ran_at_lem : (i : ℕ) (l : List ℕ) → i < paddle_count → loud_at i l ≡ false → ran_at i l ≡ kept_paddle i (next_paddle (paddle_from i l)) l
+ran_at_lem i l low h = ran_still i l low (quiet_at i l h)
 
 -- Used up by its gesture, or not, and then run.
-ran-used :
-    (i : ℕ) (l : List ℕ) (still : Bool) → i < paddleCount → completesNothing (gesture (paddleFrom i l)) ≡ still
-    → ranAt i (if still then l else set l (tapsIndex i) 0) ≡ keptPaddle i (nextPaddle (paddleFrom i l)) l
-ran-used i l true low told = ran-still i l low told
-ran-used i l false low told = ran-next i l 0 low (sym (taps-left (paddleFrom i l) ∙ rw told))
+ran_used :
+    (i : ℕ) (l : List ℕ) (still : Bool) → i < paddle_count → completes_nothing (gesture (paddle_from i l)) ≡ still
+    → ran_at i (if still then l else set l (taps_index i) 0) ≡ kept_paddle i (next_paddle (paddle_from i l)) l
+ran_used i l true low told = ran_still i l low told
+ran_used i l false low told = ran_next i l 0 low (sym (taps_left (paddle_from i l) ∙ rw told))
 
-pub ticks-at :
-    (i : ℕ) (l : List ℕ) (g : Gesture) (l₁ l' : List ℕ) → i < paddleCount
-    → g ≡ gesture (paddleFrom i l) → l₁ ≡ usedUp i g l → l' ≡ ranAt i l₁ → TicksAt i l g l'
-unfolding usedUp
-ticks-at i l g l₁ l' low is used ran =
-    record { completed = is; paddles = ran ∙ ap (ranAt i) (used ∙ rw is) ∙ ran-used i l _ low refl }
+pub ticks_at :
+    (i : ℕ) (l : List ℕ) (g : Gesture) (l₁ l' : List ℕ) → i < paddle_count
+    → g ≡ gesture (paddle_from i l) → l₁ ≡ used_up i g l → l' ≡ ran_at i l₁ → TicksAt i l g l'
+unfolding used_up
+ticks_at i l g l₁ l' low is used ran =
+    record { completed = is; paddles = ran ∙ ap (ran_at i) (used ∙ rw is) ∙ ran_used i l _ low refl }
 
 -- The gesture, by the bytes.
-pub gesture-none : (i : ℕ) (l : List ℕ) (loud : Bool) → loud ≡ loudAt i l → loud ≡ false → Nothing ≡ gesture (paddleFrom i l)
-gesture-none i l loud told no' = sym (nothing _ (quiet_at i l (sym told ∙ no')))
+pub gesture_none : (i : ℕ) (l : List ℕ) (loud : Bool) → loud ≡ loud_at i l → loud ≡ false → Nothing ≡ gesture (paddle_from i l)
+gesture_none i l loud told no' = sym (nothing _ (quiet_at i l (sym told ∙ no')))
 
-pub gesture-loud :
-    (i : ℕ) (l : List ℕ) (loud up : Bool) → loud ≡ loudAt i l → loud ≡ true → up ≡ eqb (get_or l (contactsIndex i) 0 % 4) 0
-    → gesture (paddleFrom i l) ≡ (if up then Taps (get_or l (tapsIndex i) 0) else Hold)
-unfolding loudAt paddleFrom down ends completed closing gesture
-gesture-loud i l loud up told yes' is =
-    let taps = get_or l (tapsIndex i) 0 in
-    rw (down-contacts (get_or l (contactsIndex i) 0), is)
-    (go taps (eqb (get_or l (contactsIndex i) 0 % 4) 0) (eqb (get_or l (holdIndex i) 0) 1) (leb (get_or l (gapIndex i) 0) 1) (eqb taps 0) (sym told ∙ yes'))
+pub gesture_loud :
+    (i : ℕ) (l : List ℕ) (loud up : Bool) → loud ≡ loud_at i l → loud ≡ true → up ≡ eqb (get_or l (contacts_index i) 0 % 4) 0
+    → gesture (paddle_from i l) ≡ (if up then Taps (get_or l (taps_index i) 0) else Hold)
+unfolding loud_at paddle_from down ends completed closing gesture
+gesture_loud i l loud up told yes' is =
+    let taps = get_or l (taps_index i) 0 in
+    rw (down_contacts (get_or l (contacts_index i) 0), is)
+    (go taps (eqb (get_or l (contacts_index i) 0 % 4) 0) (eqb (get_or l (hold_index i) 0) 1) (leb (get_or l (gap_index i) 0) 1) (eqb taps 0) (sym told ∙ yes'))
   where
     go : (taps : ℕ) (up held closed none : Bool) → (if up then closed && not none else held) ≡ true
         → (if (if not up then held else closed) then (if not up then Hold else if none then Nothing else Taps taps) else Nothing)
@@ -411,27 +411,27 @@ gesture-loud i l loud up told yes' is =
     go taps false true closed none h = refl
     go taps false false closed none h = absurd (true≢false (sym h))
 
-loud-apart : (i n j : ℕ) (p : Paddle) (l : List ℕ) → j < i → i + n ≤ paddleCount → loudFrom i n (keptPaddle j p l) ≡ loudFrom i n l
-unfolding loudFrom
-loud-apart i zero j p l low fits = refl
-loud-apart i (suc n) j p l low fits =
-    let same = paddle-apart j i p l (λ e. omega arith) (omega arith) (omega arith) in
-    let at : loudAt i (keptPaddle j p l) ≡ loudAt i l =
-    loud-gesture i (keptPaddle j p l) ∙ (ap (λ (q : Paddle). not (completesNothing (gesture q))) same ∙ sym (loud-gesture i l)) in
-    rw (at, loud-apart (suc i) n j p l (omega arith) (omega arith))
+loud_apart : (i n j : ℕ) (p : Paddle) (l : List ℕ) → j < i → i + n ≤ paddle_count → loud_from i n (kept_paddle j p l) ≡ loud_from i n l
+unfolding loud_from
+loud_apart i zero j p l low fits = refl
+loud_apart i (suc n) j p l low fits =
+    let same = paddle_apart j i p l (λ e. omega arith) (omega arith) (omega arith) in
+    let at : loud_at i (kept_paddle j p l) ≡ loud_at i l =
+    loud_gesture i (kept_paddle j p l) ∙ (ap (λ (q : Paddle). not (completes_nothing (gesture q))) same ∙ sym (loud_gesture i l)) in
+    rw (at, loud_apart (suc i) n j p l (omega arith) (omega arith))
 
-ran-from :
-    (i n : ℕ) (l : List ℕ) → loudFrom i n l ≡ false → i + n ≤ paddleCount
-    → ranFrom i n l ≡ keptFrom i (map nextPaddle (paddlesFrom i n l)) l
-unfolding loudFrom ranFrom paddlesFrom keptFrom
-ran-from i zero l h fits = refl
-ran-from i (suc n) l h fits =
-    let still = neither (loudAt i l) (loudFrom (suc i) n l) h in
-    let p = nextPaddle (paddleFrom i l) in
-    ap (λ (m : List ℕ). ranFrom (suc i) n m) (ran-at i l (omega arith) still.0)
-    ∙ ran-from (suc i) n (keptPaddle i p l) (loud-apart (suc i) n i p l (omega arith) (omega arith) ∙ still.1) (omega arith)
-    ∙ ap (λ (ps : List Paddle). keptFrom (suc i) (map nextPaddle ps) (keptPaddle i p l)) (from-apart (suc i) n i p l (omega arith) (omega arith))
+ran_from_lem :
+    (i n : ℕ) (l : List ℕ) → loud_from i n l ≡ false → i + n ≤ paddle_count
+    → ran_from i n l ≡ kept_from i (map next_paddle (paddles_from i n l)) l
+unfolding loud_from ran_from paddles_from kept_from
+ran_from_lem i zero l h fits = refl
+ran_from_lem i (suc n) l h fits =
+    let still = neither (loud_at i l) (loud_from (suc i) n l) h in
+    let p = next_paddle (paddle_from i l) in
+    ap (λ (m : List ℕ). ran_from (suc i) n m) (ran_at_lem i l (omega arith) still.0)
+    ∙ ran_from_lem (suc i) n (kept_paddle i p l) (loud_apart (suc i) n i p l (omega arith) (omega arith) ∙ still.1) (omega arith)
+    ∙ ap (λ (ps : List Paddle). kept_from (suc i) (map next_paddle ps) (kept_paddle i p l)) (from_apart (suc i) n i p l (omega arith) (omega arith))
 
-pub quiet-ran : (l : List ℕ) → quietBytes l ≡ true → ranBytes l ≡ keptPaddles (map nextPaddle (paddlesOf l)) l
-unfolding quietBytes ranBytes
-quiet-ran l h = ran-from 0 paddleCount l (not-true _ h) (omega arith)
+pub quiet_ran : (l : List ℕ) → quiet_bytes l ≡ true → ran_bytes l ≡ kept_paddles (map next_paddle (paddles_of l)) l
+unfolding quiet_bytes ran_bytes
+quiet_ran l h = ran_from_lem 0 paddle_count l (not-true _ h) (omega arith)

@@ -1,11 +1,12 @@
 // The paddles of a switch in their lent bytes, kind by kind, so that what most ticks do to all of them is a plain loop: of each
 // paddle in order its contacts, then of each its taps, then hold, then gap. Of contacts bit 0 says that the local one is down and
 // bit 1 that the slave one is; the bits above them say nothing.
+#![tactic(auto)]
 ghost use Rattle.std.specs.Prelude.{◌≡◌, ◌<◌};
 ghost use Rattle.paddle.specs.Paddle.{gesture};
-ghost use Rattle.model.specs.Model.{paddleCount};
-ghost use Rattle.panel.specs.Panel.{localIn, slaveIn, contactsNumber, paddleFrom, paddlesOf, pressedAt, keptContacts, keptPaddle, keptPaddles, freshPaddles};
-ghost use Rattle.panel.specs.Code.{loudAt, quietBytes, leftBy, usedUp, ranAt, ranBytes, Lifts, Ticks, TicksAt};
+ghost use Rattle.model.specs.Model.{paddle_count};
+ghost use Rattle.panel.specs.Panel.{local_in, slave_in, contacts_number, paddle_from, paddles_of, pressed_at, kept_contacts, kept_paddle, kept_paddles, fresh_paddles};
+ghost use Rattle.panel.specs.Code.{loud_at, quiet_bytes, left_by, used_up, ran_at, ran_bytes, Lifts, Ticks, TicksAt};
 
 use model::{PADDLES, kind_of, paddle_of};
 use paddle::{Gesture, Paddle};
@@ -24,7 +25,7 @@ const GAP: usize = 3 * PADDLES;
 
 // All of them up, and nothing counted.
 pub fn raise(paddles: &mut [u8; BYTES])
-    ensures { paddles.new ≡ keptPaddles freshPaddles paddles.old }
+    ensures { paddles.new ≡ kept_paddles fresh_paddles paddles.old }
 {
     let mut i = 0;
     while i < PADDLES {
@@ -35,7 +36,7 @@ pub fn raise(paddles: &mut [u8; BYTES])
 
 // A press edge of a contact.
 pub fn press(contact: u8, paddles: &mut [u8; BYTES])
-    ensures { paddles.new ≡ keptPaddles (pressedAt contact (paddlesOf paddles.old)) paddles.old }
+    ensures { paddles.new ≡ kept_paddles (pressed_at contact (paddles_of paddles.old)) paddles.old }
 {
     let i = paddle_of(contact);
     let pressed = paddle_at(i, paddles).press(kind_of(contact));
@@ -55,7 +56,7 @@ pub fn release(contact: u8, paddles: &mut [u8; BYTES]) -> Gesture
 
 // Whether the next tick completes no gesture.
 pub fn quiet(paddles: &[u8; BYTES]) -> bool
-    ensures { result ≡ quietBytes paddles.now }
+    ensures { result ≡ quiet_bytes paddles.now }
 {
     let mut loud = false;
     let mut i = 0;
@@ -69,8 +70,8 @@ pub fn quiet(paddles: &[u8; BYTES]) -> bool
 // Whether the next tick completes a gesture of the paddle: Hold while it is down, or up the close of a run. All four bytes are read
 // before the test.
 fn loud_at(i: usize, paddles: &[u8; BYTES]) -> bool
-    requires { i < paddleCount }
-    ensures { result ≡ loudAt i paddles.now }
+    requires { i < paddle_count }
+    ensures { result ≡ loud_at i paddles.now }
 {
     let down = paddles[CONTACTS + i] & 3 != 0;
     let hold = paddles[HOLD + i] == 1;
@@ -84,7 +85,7 @@ fn loud_at(i: usize, paddles: &[u8; BYTES]) -> bool
 
 // A tick that completes no gesture: the timers run.
 pub fn run(paddles: &mut [u8; BYTES])
-    ensures { paddles.new ≡ ranBytes paddles.old }
+    ensures { paddles.new ≡ ran_bytes paddles.old }
 {
     let mut i = 0;
     while i < PADDLES {
@@ -94,8 +95,8 @@ pub fn run(paddles: &mut [u8; BYTES])
 }
 
 fn run_at(i: usize, paddles: &mut [u8; BYTES])
-    requires { i < paddleCount }
-    ensures { paddles.new ≡ ranAt i paddles.old }
+    requires { i < paddle_count }
+    ensures { paddles.new ≡ ran_at i paddles.old }
 {
     let hold = paddles[HOLD + i];
     paddles[HOLD + i] = left(paddles[CONTACTS + i], hold);
@@ -105,7 +106,7 @@ fn run_at(i: usize, paddles: &mut [u8; BYTES])
 
 // Hold comes nearer only while the paddle is down.
 fn left(contacts: u8, hold: u8) -> u8
-    ensures { result ≡ leftBy contacts hold }
+    ensures { result ≡ left_by contacts hold }
 {
     if contacts & 3 == 0 {
         return hold;
@@ -128,7 +129,7 @@ pub fn tick(paddles: &mut [u8; BYTES]) -> [Gesture; PADDLES]
 }
 
 fn tick_at(i: usize, paddles: &mut [u8; BYTES]) -> Gesture
-    requires { i < paddleCount }
+    requires { i < paddle_count }
     ensures { TicksAt i paddles.old result paddles.new }
 {
     let gesture = gesture_at(i, paddles);
@@ -139,8 +140,8 @@ fn tick_at(i: usize, paddles: &mut [u8; BYTES]) -> Gesture
 
 // A gesture uses up the taps.
 fn use_up(i: usize, gesture: Gesture, paddles: &mut [u8; BYTES])
-    requires { i < paddleCount }
-    ensures { paddles.new ≡ usedUp i gesture paddles.old }
+    requires { i < paddle_count }
+    ensures { paddles.new ≡ used_up i gesture paddles.old }
 {
     if gesture.none() {
         return;
@@ -150,8 +151,8 @@ fn use_up(i: usize, gesture: Gesture, paddles: &mut [u8; BYTES])
 
 // The gesture that the next tick completes.
 fn gesture_at(i: usize, paddles: &[u8; BYTES]) -> Gesture
-    requires { i < paddleCount }
-    ensures { result ≡ gesture (paddleFrom i paddles.now) }
+    requires { i < paddle_count }
+    ensures { result ≡ gesture (paddle_from i paddles.now) }
 {
     if !loud_at(i, paddles) {
         return Gesture::Nothing;
@@ -163,8 +164,8 @@ fn gesture_at(i: usize, paddles: &[u8; BYTES]) -> Gesture
 }
 
 fn paddle_at(i: usize, paddles: &[u8; BYTES]) -> Paddle
-    requires { i < paddleCount }
-    ensures { result ≡ paddleFrom i paddles.now }
+    requires { i < paddle_count }
+    ensures { result ≡ paddle_from i paddles.now }
 {
     let contacts = paddles[CONTACTS + i];
     Paddle {
@@ -177,8 +178,8 @@ fn paddle_at(i: usize, paddles: &[u8; BYTES]) -> Paddle
 }
 
 fn keep_paddle(i: usize, paddle: Paddle, paddles: &mut [u8; BYTES])
-    requires { i < paddleCount }
-    ensures { paddles.new ≡ keptPaddle i paddle paddles.old }
+    requires { i < paddle_count }
+    ensures { paddles.new ≡ kept_paddle i paddle paddles.old }
 {
     keep_contacts(i, contacts_number(paddle.local, paddle.slave), paddles);
     paddles[TAPS + i] = paddle.taps;
@@ -188,8 +189,8 @@ fn keep_paddle(i: usize, paddle: Paddle, paddles: &mut [u8; BYTES])
 
 // Contacts with higher bits stay as they are while they stand for the same.
 fn keep_contacts(i: usize, new: u8, paddles: &mut [u8; BYTES])
-    requires { i < paddleCount }
-    ensures { paddles.new ≡ keptContacts i new paddles.old }
+    requires { i < paddle_count }
+    ensures { paddles.new ≡ kept_contacts i new paddles.old }
 {
     let old = paddles[CONTACTS + i];
     if contacts_number(local_in(old), slave_in(old)) != new {
@@ -199,20 +200,20 @@ fn keep_contacts(i: usize, new: u8, paddles: &mut [u8; BYTES])
 
 // Whether the local contact is down.
 fn local_in(contacts: u8) -> bool
-    ensures { result ≡ localIn contacts }
+    ensures { result ≡ local_in contacts }
 {
     contacts & 1 == 1
 }
 
 // Whether the slave contact is.
 fn slave_in(contacts: u8) -> bool
-    ensures { result ≡ slaveIn contacts }
+    ensures { result ≡ slave_in contacts }
 {
     contacts >> 1 & 1 == 1
 }
 
 fn contacts_number(local: bool, slave: bool) -> u8
-    ensures { result ≡ contactsNumber local slave }
+    ensures { result ≡ contacts_number local slave }
 {
     (local as u8) + 2 * (slave as u8)
 }

@@ -1,7 +1,8 @@
 // Where everything stands among the registers: each named place is read by one function.
+#![tactic(auto)]
 ghost use Rattle.std.specs.Prelude.{◌≡◌};
-ghost use Rattle.places.specs.Places.{networkIn, unitIn, digitIn, linkPlace, levelPlace, componentIn, transmitIn};
-ghost use Rattle.places.specs.Places.{singleIn, doubleIn, lightIn, dimmingIn, entryPlace, entryIn, savedIn, counterPlace};
+ghost use Rattle.places.specs.Places.{network_in, unit_in, digit_in, link_place, level_place, component_in, transmit_in};
+ghost use Rattle.places.specs.Places.{single_in, double_in, light_in, dimming_in, entry_place, entry_in, saved_in, counter_place};
 
 pub const SIZE: usize = 256;
 
@@ -27,7 +28,7 @@ pub const COMPONENTS: u8 = 16;
 const ENTRIES: u8 = 14;
 
 // A receive component: what a link asks for.
-#[derive(Drop)]
+#[derive(Clone, Copy)]
 pub struct Component {
     pub link: u8,
     pub level: u8,
@@ -35,7 +36,7 @@ pub struct Component {
 }
 
 // A paddle's transmit component: its link, and a command number for each gesture.
-#[derive(Drop)]
+#[derive(Clone, Copy)]
 pub struct Transmit {
     pub link: u8,
     pub single: u8,
@@ -45,14 +46,14 @@ pub struct Transmit {
 }
 
 // A line of the action table.
-#[derive(Drop)]
+#[derive(Clone, Copy)]
 pub struct Action {
     pub level: u8,
     pub rate: u8,
 }
 
 // An entry of the command table.
-#[derive(Drop)]
+#[derive(Clone, Copy)]
 pub struct Entry {
     pub command: u8,
     pub first: u8,
@@ -60,33 +61,33 @@ pub struct Entry {
 }
 
 // Entries into Setup, and restarts.
-#[derive(Drop)]
+#[derive(Clone, Copy)]
 pub enum Counter {
     Setups,
     Restarts,
 }
 
 pub fn network(all: &[u8; 256]) -> u8
-    ensures { result ≡ networkIn all.now }
+    ensures { result ≡ network_in all.now }
 {
     all[NETWORK]
 }
 
 pub fn unit(all: &[u8; 256]) -> u8
-    ensures { result ≡ unitIn all.now }
+    ensures { result ≡ unit_in all.now }
 {
     all[UNIT]
 }
 
 pub fn digit(all: &[u8; 256]) -> u8
-    ensures { result ≡ digitIn all.now }
+    ensures { result ≡ digit_in all.now }
 {
     all[VERSION] % 16
 }
 
 // The i-th receive component; past the sixteenth they count on from the first.
 pub fn component_at(all: &[u8; 256], i: u8) -> Component
-    ensures { result ≡ componentIn all.now i }
+    ensures { result ≡ component_in all.now i }
 {
     let place = link_place(i);
     Component {
@@ -97,19 +98,19 @@ pub fn component_at(all: &[u8; 256], i: u8) -> Component
 }
 
 pub fn link_place(i: u8) -> usize
-    ensures { result ≡ linkPlace i }
+    ensures { result ≡ link_place i }
 {
     0x40 + 3 * ((i % COMPONENTS) as usize)
 }
 
 pub fn level_place(i: u8) -> usize
-    ensures { result ≡ levelPlace i }
+    ensures { result ≡ level_place i }
 {
     link_place(i) + 1
 }
 
 pub fn transmit_of(all: &[u8; 256], paddle: u8) -> Transmit
-    ensures { result ≡ transmitIn all.now paddle }
+    ensures { result ≡ transmit_in all.now paddle }
 {
     let place = model::transmit_place(paddle);
     Transmit {
@@ -122,7 +123,7 @@ pub fn transmit_of(all: &[u8; 256], paddle: u8) -> Transmit
 }
 
 pub fn single(all: &[u8; 256], paddle: u8) -> Action
-    ensures { result ≡ singleIn all.now paddle }
+    ensures { result ≡ single_in all.now paddle }
 {
     let place = model::action_place(paddle);
     Action {
@@ -132,7 +133,7 @@ pub fn single(all: &[u8; 256], paddle: u8) -> Action
 }
 
 pub fn double(all: &[u8; 256], paddle: u8) -> Action
-    ensures { result ≡ doubleIn all.now paddle }
+    ensures { result ≡ double_in all.now paddle }
 {
     let place = model::action_place(paddle);
     Action {
@@ -142,20 +143,20 @@ pub fn double(all: &[u8; 256], paddle: u8) -> Action
 }
 
 pub fn light(all: &[u8; 256]) -> u8
-    ensures { result ≡ lightIn all.now }
+    ensures { result ≡ light_in all.now }
 {
     all[LIGHT]
 }
 
 pub fn dimming(all: &[u8; 256]) -> u8
-    ensures { result ≡ dimmingIn all.now }
+    ensures { result ≡ dimming_in all.now }
 {
     all[DIMMING]
 }
 
 // The i-th entry of the command table; past the fourteenth they count on from the first.
 pub fn entry_at(all: &[u8; 256], i: u8) -> Entry
-    ensures { result ≡ entryIn all.now i }
+    ensures { result ≡ entry_in all.now i }
 {
     let place = entry_place(i);
     Entry {
@@ -166,20 +167,20 @@ pub fn entry_at(all: &[u8; 256], i: u8) -> Entry
 }
 
 fn entry_place(i: u8) -> usize
-    ensures { result ≡ entryPlace i }
+    ensures { result ≡ entry_place i }
 {
     0x90 + 3 * ((i % ENTRIES) as usize)
 }
 
 pub fn saved(all: &[u8; 256]) -> u8
-    ensures { result ≡ savedIn all.now }
+    ensures { result ≡ saved_in all.now }
 {
     all[SAVED]
 }
 
 impl Counter {
     pub fn place(self) -> usize
-        ensures { result ≡ counterPlace self }
+        ensures { result ≡ counter_place self }
     {
         match self {
             Counter::Setups => 0xFA,

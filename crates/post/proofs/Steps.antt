@@ -13,29 +13,29 @@ use Rattle.writer.specs.Writing.{Wrote, laid}
 use Rattle.packet.specs.declared.Header.{Header}
 use Rattle.writer.specs.declared.Written.{Written}
 use Rattle.writer.specs.declared.Written.TheVariants.{Packet, Field, Short}
-use Rattle.writer.proofs.Laws.{written-length, exactly-written}
-use Rattle.packet.proofs.Laws.{packed-length}
+use Rattle.writer.proofs.Laws.{written_length, exactly_written}
+use Rattle.packet.proofs.Laws.{packed_length}
 use Rattle.writer.specs.contracts.Written.{the_type}
 use Rattle.registers.specs.Registers.{range_of}
 use Rattle.registers.specs.declared.Seen.{Seen}
-use Rattle.post.specs.Post.{enveloped, valuesFrom}
+use Rattle.post.specs.Post.{enveloped, values_from}
 use Rattle.registers.proofs.Laws.{range_length}
-use Rattle.post.proofs.Laws.{own-ranges, laid-short, placed-short, laid-whole, placed-whole, nothing-laid}
+use Rattle.post.proofs.Laws.{own_ranges, laid_short, placed_short, laid_whole, placed_whole, nothing_laid}
 use Rattle.post.specs.Code.{front, Laid}
 
 -- The writer's promise, for a message of at most 18 bytes, is what laying its packets promises.
 module _ (link : Bool) (network destination source : ℕ) (before after : List ℕ) where
-  pub wrote-packet : (m : List ℕ) (n : ℕ) → Wrote (header link network destination source) m before (Packet n) after
+  pub wrote_packet : (m : List ℕ) (n : ℕ) → Wrote (header link network destination source) m before (Packet n) after
       → Laid (enveloped (header link network destination source) m) before n after
   unfolding enveloped front laid
-  wrote-packet [] n w = let l = written-length (header link network destination source) [] before after n w in absurd (omega arith)
-  wrote-packet (b ∷ bs) n w =
+  wrote_packet [] n w = let l = written_length (header link network destination source) [] before after n w in absurd (omega arith)
+  wrote_packet (b ∷ bs) n w =
       let h = header link network destination source in
-      let l = written-length h (b ∷ bs) before after n w in
-      let long : length (packed h (b ∷ bs)) ≡ n = packed-length h (b ∷ bs) ∙ sym l.1.0 in
+      let l = written_length h (b ∷ bs) before after n w in
+      let long : length (packed h (b ∷ bs)) ≡ n = packed_length h (b ∷ bs) ∙ sym l.1.0 in
       record {
-        answered = sym (laid-whole (packed h (b ∷ bs)) (length before) (omega arith) ∙ long);
-        bytes = w.bytes ∙ sym (placed-whole (packed h (b ∷ bs)) before (omega arith) ∙ rw long);
+        answered = sym (laid_whole (packed h (b ∷ bs)) (length before) (omega arith) ∙ long);
+        bytes = w.bytes ∙ sym (placed_whole (packed h (b ∷ bs)) before (omega arith) ∙ rw long);
       }
 
   pub wrote_nothing : (m : List ℕ) (w : Written) → length m ≤ 18 → OneOf (1 ∷ 2 ∷ []) (tag_of the_type w)
@@ -43,18 +43,18 @@ module _ (link : Bool) (network destination source : ℕ) (before after : List �
       → Laid (enveloped (header link network destination source) m) before 0 after
   unfolding enveloped front laid
   wrote_nothing m (Packet n) most k w = absurd (miss (1 ∷ 2 ∷ []) 0 tt k)
-  wrote_nothing [] Field most k w = rw w.bytes (nothing-laid before)
-  wrote_nothing [] Short most k w = rw w.bytes (nothing-laid before)
+  wrote_nothing [] Field most k w = rw w.bytes (nothing_laid before)
+  wrote_nothing [] Short most k w = rw w.bytes (nothing_laid before)
   wrote_nothing (b ∷ bs) Field most k w =
       absurd
-      ((exactly-written.answer Field _ _ _).0 (sym w.answered) (own-ranges link network destination source _ (omega arith) most))
+      ((exactly_written.answer Field _ _ _).0 (sym w.answered) (own_ranges link network destination source _ (omega arith) most))
   wrote_nothing (b ∷ bs) Short most k w =
       let h = header link network destination source in
-      let g = (exactly-written.answer Short _ _ _).0 (sym w.answered) in
-      let long = packed-length h (b ∷ bs) in
+      let g = (exactly_written.answer Short _ _ _).0 (sym w.answered) in
+      let long = packed_length h (b ∷ bs) in
       record {
-        answered = sym (laid-short (packed h (b ∷ bs)) (length before) (omega arith));
-        bytes = w.bytes ∙ sym (placed-short (packed h (b ∷ bs)) before (omega arith));
+        answered = sym (laid_short (packed h (b ∷ bs)) (length before) (omega arith));
+        bytes = w.bytes ∙ sym (placed_short (packed h (b ∷ bs)) before (omega arith));
       }
 
 -- the bytes of the buffer that values are read into
@@ -70,19 +70,19 @@ module _ (all : List ℕ) (seen : Seen) (first count n : ℕ) (values rest : Lis
   read_length : length values ≡ n
   read_length = rw (values-are, range_length) asked
 
-  pub filled-room : (a b : ℕ) → 2 + n ≤ length (a ∷ b ∷ values ++ rest)
-  filled-room a b = omega (arith, read_length, length-append values rest)
+  pub filled_room : (a b : ℕ) → 2 + n ≤ length (a ∷ b ∷ values ++ rest)
+  filled_room a b = omega (arith, read_length, length-append values rest)
 
-  pub filled-length : (a b : ℕ) → length (take (2 + n) (a ∷ b ∷ values ++ rest)) ≡ 2 + n
-  filled-length a b = length-take-le (2 + n) (a ∷ b ∷ values ++ rest) (filled-room a b)
+  pub filled_length : (a b : ℕ) → length (take (2 + n) (a ∷ b ∷ values ++ rest)) ≡ 2 + n
+  filled_length a b = length-take-le (2 + n) (a ∷ b ∷ values ++ rest) (filled_room a b)
 
-  pub filled-most : (a b : ℕ) → length (take (2 + n) (a ∷ b ∷ values ++ rest)) ≤ 18
-  filled-most a b = omega (arith, filled-length a b)
+  pub filled_most : (a b : ℕ) → length (take (2 + n) (a ∷ b ∷ values ++ rest)) ≤ 18
+  filled_most a b = omega (arith, filled_length a b)
 
   pub filled : (h : Header) (before after : List ℕ) (answer : ℕ)
       → Laid (enveloped h (take (2 + n) (0x90 ∷ first ∷ values ++ rest))) before answer after
-      → Laid (enveloped h (valuesFrom all seen first count)) before answer after
-  unfolding valuesFrom
+      → Laid (enveloped h (values_from all seen first count)) before answer after
+  unfolding values_from
   filled h before after answer =
       let two : 2 + n ≡ suc (suc n) = omega arith in
       let message : take (2 + n) (0x90 ∷ first ∷ values ++ rest) ≡ 0x90 ∷ first ∷ range_of all seen first (min 16 count) =

@@ -4,12 +4,12 @@ use Rattle.words.specs.Words.{if◌then◌else◌}
 use Rattle.units.specs.Units.{percent}
 use Rattle.packet.specs.Layout.{header}
 use Rattle.packet.specs.declared.Header.{Header}
-use Rattle.places.specs.Places.{networkIn, unitIn}
+use Rattle.places.specs.Places.{network_in, unit_in}
 use Rattle.registers.specs.declared.Seen.{Seen}
 use Rattle.post.specs.declared.Message.{Message}
 use Rattle.post.specs.declared.Message.TheVariants.{Empty}
 use Rattle.post.specs.declared.Note.{Note}
-use Rattle.post.specs.Post.{enveloped, bytes_of, placedOne, replied}
+use Rattle.post.specs.Post.{enveloped, bytes_of, placed_one, replied}
 use Rattle.post.specs.declared.Reply.TheVariants.{Status}
 
 -- A link packet still to be laid.
@@ -18,16 +18,16 @@ note network source destination message =
     record { network = network; source = source; destination = destination; message = message }
 
 -- Nothing to be laid: the message is empty.
-abbrev pub noNote : Note
-noNote = note 0 0 0 Empty
+abbrev pub no_note : Note
+no_note = note 0 0 0 Empty
 
 -- The header of a note's packet.
-abbrev pub noteHeader : Note → Header
-noteHeader n = header true n.network n.destination n.source
+abbrev pub note_header : Note → Header
+note_header n = header true n.network n.destination n.source
 
 -- The packets of a note, one or none.
-unfoldable pub sentOf : Note → List (List ℕ)
-sentOf n = enveloped (noteHeader n) (bytes_of n.message)
+unfoldable pub sent_of : Note → List (List ℕ)
+sent_of n = enveloped (note_header n) (bytes_of n.message)
 
 -- The packet for one place; where there is none, no bytes.
 unfoldable pub front : List (List ℕ) → List ℕ
@@ -35,13 +35,13 @@ front [] = []
 front (p ∷ rest) = p
 
 -- The length of what is laid into room bytes: 0 where they are too few.
-unfoldable pub laidLength : List ℕ → ℕ → ℕ
-laidLength p room = if ltb room (length p) then 0 else length p
+unfoldable pub laid_length : List ℕ → ℕ → ℕ
+laid_length p room = if ltb room (length p) then 0 else length p
 
 -- What laying packets into one place promises: the answer, and every byte of the place.
 pub record Laid (sent : List (List ℕ)) (before : List ℕ) (answer : ℕ) (after : List ℕ) : Type 0 where
-  pub answered : answer ≡ laidLength (front sent) (length before)
-  pub bytes : after ≡ placedOne (front sent) before
+  pub answered : answer ≡ laid_length (front sent) (length before)
+  pub bytes : after ≡ placed_one (front sent) before
 
 -- No two outcomes of `lay` and `send`: the promise fixes the answer and every byte of the place.
 abbrev pub LaysOneWay : Type 0
@@ -52,5 +52,5 @@ LaysOneWay =
 -- 01, Numbers to test by, 2 (a), the reply: network 1, unit 5, 40 percent, to sender 9.
 abbrev pub CaseA : Type 0
 CaseA =
-    (all : List ℕ) (seen : Seen) → networkIn all ≡ 1 → unitIn all ≡ 5
+    (all : List ℕ) (seen : Seen) → network_in all ≡ 1 → unit_in all ≡ 5
     → replied all seen 9 Status (percent 40) ≡ (0x08 ∷ 0x00 ∷ 0x01 ∷ 0x09 ∷ 0x05 ∷ 0x86 ∷ 0x28 ∷ 0x3B ∷ []) ∷ []

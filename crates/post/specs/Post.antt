@@ -4,7 +4,7 @@ use Rattle.words.specs.Words.{if◌then◌else◌}
 use Rattle.units.specs.declared.Percent.{Percent}
 use Rattle.packet.specs.Layout.{header, packed}
 use Rattle.packet.specs.declared.Header.{Header}
-use Rattle.places.specs.Places.{networkIn, unitIn}
+use Rattle.places.specs.Places.{network_in, unit_in}
 use Rattle.registers.specs.Registers.{range_of}
 use Rattle.registers.specs.declared.Seen.{Seen}
 use Rattle.post.specs.declared.Message.{Message}
@@ -14,7 +14,7 @@ use Rattle.post.specs.declared.Reply.TheVariants.{Silence, Status, Registers}
 
 -- 01, Packet layout (H), 5: network and source are our own.
 abbrev pub headed : List ℕ → Bool → ℕ → Header
-headed all link destination = header link (networkIn all) destination (unitIn all)
+headed all link destination = header link (network_in all) destination (unit_in all)
 
 -- The packets of a message: one, or none where the message is empty.
 unfoldable pub enveloped : Header → List ℕ → List (List ℕ)
@@ -33,19 +33,19 @@ abbrev pub status : Percent → Message
 status percent = Two 0x86 percent.0
 
 -- 01, Commands, 3 (0x10): the message that tells registers, 16 at most.
-unfoldable pub valuesFrom : List ℕ → Seen → ℕ → ℕ → List ℕ
-valuesFrom all seen first count = 0x90 ∷ first ∷ range_of all seen first (min 16 count)
+unfoldable pub values_from : List ℕ → Seen → ℕ → ℕ → List ℕ
+values_from all seen first count = 0x90 ∷ first ∷ range_of all seen first (min 16 count)
 
 -- 01, Commands, 3 (0x10, 0x30): the message of each reply.
-unfoldable pub replyMessage : List ℕ → Seen → Reply → Percent → List ℕ
-replyMessage all seen Silence percent = []
-replyMessage all seen Status percent = bytes_of (status percent)
-replyMessage all seen (Registers first count) percent = valuesFrom all seen first count
+unfoldable pub reply_message : List ℕ → Seen → Reply → Percent → List ℕ
+reply_message all seen Silence percent = []
+reply_message all seen Status percent = bytes_of (status percent)
+reply_message all seen (Registers first count) percent = values_from all seen first count
 
 -- 01, Commands, 8: the direct packets of a reply, one or none, to the one who asked.
 unfoldable pub replied : List ℕ → Seen → ℕ → Reply → Percent → List (List ℕ)
-replied all seen to reply percent = enveloped (headed all false to) (replyMessage all seen reply percent)
+replied all seen to reply percent = enveloped (headed all false to) (reply_message all seen reply percent)
 
 -- 01, Events and time, 6: a place with a packet laid at its front; the bytes behind it are kept, and all of them if it does not fit.
-unfoldable pub placedOne : List ℕ → List ℕ → List ℕ
-placedOne p before = if ltb (length before) (length p) then before else p ++ drop (length p) before
+unfoldable pub placed_one : List ℕ → List ℕ → List ℕ
+placed_one p before = if ltb (length before) (length p) then before else p ++ drop (length p) before

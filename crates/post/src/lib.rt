@@ -1,8 +1,9 @@
 // What a switch sends: a link packet, noted while its event goes on and laid at its end, and a reply to a packet.
+#![tactic(auto)]
 ghost use Rattle.std.specs.Prelude.{◌≡◌, ◌≤◌, min, false, length};
 ghost use Rattle.packet.specs.Layout.{header};
-ghost use Rattle.post.specs.Post.{replied, valuesFrom, headed, enveloped};
-ghost use Rattle.post.specs.Code.{noNote, noteHeader, sentOf, Laid};
+ghost use Rattle.post.specs.Post.{replied, values_from, headed, enveloped};
+ghost use Rattle.post.specs.Code.{no_note, note_header, sent_of, Laid};
 
 use packet::Header;
 use registers::Seen;
@@ -18,7 +19,7 @@ const VALUES: u8 = 0x90;
 const MOST: u8 = 16;
 
 // A message of up to three bytes.
-#[derive(Drop)]
+#[derive(Clone, Copy)]
 pub enum Message {
     Empty,
     One(u8),
@@ -28,7 +29,7 @@ pub enum Message {
 
 // A link packet still to be laid, with network, source and link as the registers stood at its gesture. Where the message is
 // empty there is none.
-#[derive(Drop)]
+#[derive(Clone, Copy)]
 pub struct Note {
     pub network: u8,
     pub source: u8,
@@ -37,7 +38,7 @@ pub struct Note {
 }
 
 // What a packet is answered with.
-#[derive(Drop)]
+#[derive(Clone, Copy)]
 pub enum Reply {
     Silence,
     Status,
@@ -46,7 +47,7 @@ pub enum Reply {
 
 impl Note {
     pub fn none() -> Note
-        ensures { result ≡ noNote }
+        ensures { result ≡ no_note }
     {
         Note {
             network: 0,
@@ -59,7 +60,7 @@ impl Note {
 
 // Lays a note's packet at the front of a place and answers its whole length: 0 where there is none, or no room for it.
 pub fn lay(note: Note, out: &mut [u8]) -> u8
-    ensures { Laid (sentOf note) out.old result out.new }
+    ensures { Laid (sent_of note) out.old result out.new }
 {
     let message = note.message;
     match message {
@@ -81,7 +82,7 @@ pub fn lay(note: Note, out: &mut [u8]) -> u8
 
 fn link(note: Note, message: &[u8], out: &mut [u8]) -> u8
     requires { length message.now ≤ 18 }
-    ensures { Laid (enveloped (noteHeader note) message.now) out.old result out.new }
+    ensures { Laid (enveloped (note_header note) message.now) out.old result out.new }
 {
     put(
         true,
@@ -115,7 +116,7 @@ pub fn send(
 }
 
 fn send_values(all: &[u8; 256], seen: Seen, to: u8, first: u8, count: u8, out: &mut [u8]) -> u8
-    ensures { Laid (enveloped (headed all.now false to) (valuesFrom all.now seen first count)) out.old result out.new }
+    ensures { Laid (enveloped (headed all.now false to) (values_from all.now seen first count)) out.old result out.new }
 {
     let mut bytes = [0u8; 18];
     bytes[0] = VALUES;

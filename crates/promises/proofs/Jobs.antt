@@ -4,32 +4,32 @@ use mathlib.Core.Path.{◌≡◌}
 use Prim.Native.Nat.{ℕ, ◌≤◌, ◌<◌}
 use borrow.Author.Tests.{le-ltb, lt-leb}
 use lib.ListN.{drop}
-use Rattle.packet.specs.Reading.{messageOf, read_of}
+use Rattle.packet.specs.Reading.{message_of, read_of}
 use Rattle.packet.specs.declared.Frame.TheVariants.{Read}
 use Rattle.packet.specs.declared.Header.{Header}
-use Rattle.model.specs.Model.{room, contactCount}
+use Rattle.model.specs.Model.{room, contact_count}
 use Rattle.judge.specs.Judge.{judged}
 use Rattle.judge.specs.declared.Order.{Order}
 use Rattle.switch.specs.Switch.{Plain, event, press, receive, release, tick}
-use Rattle.switch.specs.Events.{jobOfDeed, job, known, jobOfOrder, jobOfPress, jobOfFrame, jobOfBytes, jobOfRelease, jobOfTick}
+use Rattle.switch.specs.Events.{job_of_deed, job, known, job_of_order, job_of_press, job_of_frame, job_of_bytes, job_of_release, job_of_tick}
 
 -- A packet that is read: what is judged of it is what is done.
-pub receive-job : (p : Plain) (lent : ℕ) (bytes : List ℕ) (h : Header) (o : Order) → room ≤ lent → read_of bytes ≡ Read h
-    → judged p.registers p.core.mode h (messageOf bytes) ≡ o
-    → job p (event lent (receive bytes)) ≡ jobOfOrder o h.source (drop 2 (messageOf bytes)) p
-unfolding job jobOfDeed jobOfBytes jobOfFrame
-receive-job p lent bytes h o k read judge = rw (le-ltb lent room k, read, judge)
+pub receive_job : (p : Plain) (lent : ℕ) (bytes : List ℕ) (h : Header) (o : Order) → room ≤ lent → read_of bytes ≡ Read h
+    → judged p.registers p.core.mode h (message_of bytes) ≡ o
+    → job p (event lent (receive bytes)) ≡ job_of_order o h.source (drop 2 (message_of bytes)) p
+unfolding job job_of_deed job_of_bytes job_of_frame
+receive_job p lent bytes h o k read judge = rw (le-ltb lent room k, read, judge)
 
 -- An edge of a contact that there is.
-pub press-job : (p : Plain) (lent contact : ℕ) → room ≤ lent → contact < contactCount → job p (event lent (press contact)) ≡ jobOfPress contact p
-unfolding job jobOfDeed known
-press-job p lent contact h k = rw (le-ltb lent room h, lt-leb contactCount contact k)
+pub press_job : (p : Plain) (lent contact : ℕ) → room ≤ lent → contact < contact_count → job p (event lent (press contact)) ≡ job_of_press contact p
+unfolding job job_of_deed known
+press_job p lent contact h k = rw (le-ltb lent room h, lt-leb contact_count contact k)
 
-pub release-job : (p : Plain) (lent contact : ℕ) → room ≤ lent → contact < contactCount → job p (event lent (release contact)) ≡ jobOfRelease contact p
-unfolding job jobOfDeed known
-release-job p lent contact h k = rw (le-ltb lent room h, lt-leb contactCount contact k)
+pub release_job : (p : Plain) (lent contact : ℕ) → room ≤ lent → contact < contact_count → job p (event lent (release contact)) ≡ job_of_release contact p
+unfolding job job_of_deed known
+release_job p lent contact h k = rw (le-ltb lent room h, lt-leb contact_count contact k)
 
 -- A tick.
-pub tick-job : (p : Plain) (lent : ℕ) → room ≤ lent → job p (event lent tick) ≡ jobOfTick p
-unfolding job jobOfDeed
-tick-job p lent h = rw (le-ltb lent room h)
+pub tick_job : (p : Plain) (lent : ℕ) → room ≤ lent → job p (event lent tick) ≡ job_of_tick p
+unfolding job job_of_deed
+tick_job p lent h = rw (le-ltb lent room h)

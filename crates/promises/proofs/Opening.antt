@@ -11,22 +11,22 @@ use Rattle.words.proofs.Laws.{both, cases}
 use Rattle.packet.specs.Layout.{packed}
 use Rattle.writer.specs.Promises.{Ranges}
 use Rattle.packet.specs.Promises.{Sound}
-use Rattle.packet.specs.Reading.{messageOf, read_of}
+use Rattle.packet.specs.Reading.{message_of, read_of}
 use Rattle.packet.specs.declared.Frame.{Frame}
 use Rattle.packet.specs.declared.Frame.TheVariants as frame
 use Rattle.packet.specs.declared.Header.{Header}
 use Rattle.packet.proofs.Laws as packet
-use Rattle.writer.proofs.Inverse.{reads-back}
+use Rattle.writer.proofs.Inverse.{reads_back}
 use Rattle.vault.specs.Job.{Outcome, Switch, answered, settled}
 use Rattle.vault.specs.Product
-use Rattle.vault.specs.Vault.{inSetup, matches}
+use Rattle.vault.specs.Vault.{in_setup, matches}
 use Rattle.vault.specs.declared.Mode.{Mode}
 use Rattle.vault.specs.declared.Mode.TheVariants.{Normal, Setup}
 use Rattle.vault.specs.declared.Password.{Password}
-use Rattle.vault.proofs.Laws.{equal-matches, matches-equal, respond-right}
+use Rattle.vault.proofs.Laws.{equal_matches, matches_equal, respond_right}
 use Rattle.paddle.specs.declared.Paddle.{Paddle}
-use Rattle.model.specs.Model.{paddleOf, room, contactCount}
-use Rattle.places.specs.Places.{networkIn, unitIn}
+use Rattle.model.specs.Model.{paddle_of, room, contact_count}
+use Rattle.places.specs.Places.{network_in, unit_in}
 use Rattle.registers.specs.declared.Seen.TheVariants as seen
 use Rattle.judge.specs.Judge.{judged}
 use Rattle.reach.specs.Promises.{NotFor}
@@ -36,19 +36,19 @@ use Rattle.judge.specs.declared.Work.{Work}
 use Rattle.judge.specs.declared.Work.TheVariants as work
 use Rattle.judge.proofs.Laws as judge
 use Rattle.acts.specs.Core.{entering, opened, started, signalled, unwritten}
-use Rattle.orders.proofs.Laws.{work-leads}
-use Rattle.orders.specs.Code.{workLeads}
+use Rattle.orders.proofs.Laws.{work_leads_lem}
+use Rattle.orders.specs.Code.{work_leads}
 use Rattle.post.specs.declared.Reply.TheVariants as reply
-use Rattle.panel.specs.Panel.{gestureAt}
+use Rattle.panel.specs.Panel.{gesture_at}
 use Rattle.turns.specs.Turns.{Moment, turned}
-use Rattle.switch.specs.Switch.{Deed, Plain, Shown, answer_of, answerWith, event, press, receive, release, restart, tick}
-use Rattle.switch.specs.Events.{SwitchJob, outcomeOf, begun, jobOfDeed, finished, garbled, jobOfRead, job, known, plainAfter, jobOfWork, jobOfGuess, jobOfOrder, jobOfPress, jobOfFrame, jobOfBytes, refused, jobOfRelease, jobOfRestart, jobOfTick, woken}
-use Rattle.switch.specs.Respond.{respond, wallSwitch}
+use Rattle.switch.specs.Switch.{Deed, Plain, Shown, answer_of, answer_with, event, press, receive, release, restart, tick}
+use Rattle.switch.specs.Events.{SwitchJob, outcome_of, begun, job_of_deed, finished, garbled, job_of_read, job, known, plain_after, job_of_work, job_of_guess, job_of_order, job_of_press, job_of_frame, job_of_bytes, refused, job_of_release, job_of_restart, job_of_tick, woken}
+use Rattle.switch.specs.Respond.{respond, wall_switch}
 use Rattle.promises.specs.Demand3.{Outside}
 use Rattle.promises.specs.Numbers.{number_at}
-use Rattle.promises.specs.Opening.{ByFiveTaps, ByPassword, OnlySo, Opening, PasswordOpens, startSetup}
-use Rattle.promises.proofs.Jobs.{receive-job}
-use Rattle.promises.proofs.Modes.{leads-open, no-taps, opened as opened-by, signalled-mode, tick-mode, turned-mode}
+use Rattle.promises.specs.Opening.{ByFiveTaps, ByPassword, OnlySo, Opening, PasswordOpens, start_setup}
+use Rattle.promises.proofs.Jobs.{receive_job}
+use Rattle.promises.proofs.Modes.{leads_open, no_taps, opened as opened-by, signalled_mode, tick_mode, turned_mode}
 
 module _ (s : Switch Plain) (out : Outside s) where
   -- A job that leaves Setup does so in one of the two ways.
@@ -56,129 +56,129 @@ module _ (s : Switch Plain) (out : Outside s) where
   So d = ByPassword s d ⊎ ByFiveTaps s d
 
   abbrev Leaves : Deed → Mode → Type 0
-  Leaves d mode = inSetup mode ≡ true → So d
+  Leaves d mode = in_setup mode ≡ true → So d
 
   abbrev Leads : Deed → SwitchJob → Type 0
   Leads d j = Leaves d (settled s.password j).next.plain.core.mode
 
-  same-mode : (d : Deed) (mode : Mode) → mode ≡ s.plain.core.mode → Leaves d mode
-  same-mode d mode e to = absurd (true≢false (sym to ∙ ap inSetup e ∙ out))
+  same_mode : (d : Deed) (mode : Mode) → mode ≡ s.plain.core.mode → Leaves d mode
+  same_mode d mode e to = absurd (true≢false (sym to ∙ ap in_setup e ∙ out))
 
-  finished-leads : (d : Deed) (m : Moment) (paddles : List Paddle) → Leaves d m.core.mode → Leads d (finished m paddles)
+  finished_leads : (d : Deed) (m : Moment) (paddles : List Paddle) → Leaves d m.core.mode → Leads d (finished m paddles)
   unfolding finished settled
-  finished-leads d m paddles l to = l (sym (ap inSetup (signalled-mode m.sent m.core)) ∙ to)
+  finished_leads d m paddles l to = l (sym (ap in_setup (signalled_mode m.sent m.core)) ∙ to)
 
-  release-leads : (contact : ℕ) → Leads (release contact) (jobOfRelease contact s.plain)
-  unfolding jobOfRelease gestureAt
-  release-leads contact =
+  release_leads : (contact : ℕ) → Leads (release contact) (job_of_release contact s.plain)
+  unfolding job_of_release gesture_at
+  release_leads contact =
       let m = begun s.plain s.plain.core in
-      let g = gestureAt contact s.plain.paddles in
-      finished-leads (release contact) (turned (paddleOf contact) g m) _
-      (λ to. absurd (no-taps _ _ 5 (leads-open s.plain.core.mode g out (sym (ap inSetup (turned-mode (paddleOf contact) g m)) ∙ to)).1))
+      let g = gesture_at contact s.plain.paddles in
+      finished_leads (release contact) (turned (paddle_of contact) g m) _
+      (λ to. absurd (no_taps _ _ 5 (leads_open s.plain.core.mode g out (sym (ap in_setup (turned_mode (paddle_of contact) g m)) ∙ to)).1))
 
-  tick-leads : Leads tick (jobOfTick s.plain)
-  tick-leads to =
-      let f = opened-by s.plain.core.mode s.plain.paddles (length s.plain.paddles) out (sym (ap inSetup (tick-mode s)) ∙ to) in
+  tick_leads : Leads tick (job_of_tick s.plain)
+  tick_leads to =
+      let f = opened-by s.plain.core.mode s.plain.paddles (length s.plain.paddles) out (sym (ap in_setup (tick_mode s)) ∙ to) in
       inr (record { ticked = refl; paddle = f.paddle; closes = record { there = f.there; taps = f.five; finds = f.finds } })
 
   module _ (bytes : List ℕ) where
-    work-stays : (w : Work) → Leaves (receive bytes) (workLeads w s.plain.core.mode)
-    unfolding workLeads inSetup
-    work-stays work.Report = same-mode (receive bytes) _ refl
-    work-stays work.Close = λ to. absurd (false≢true to)
-    work-stays (work.Set first) = same-mode (receive bytes) _ refl
-    work-stays (work.Store i) = same-mode (receive bytes) _ refl
-    work-stays (work.Drive d) = same-mode (receive bytes) _ refl
+    work_stays : (w : Work) → Leaves (receive bytes) (work_leads w s.plain.core.mode)
+    unfolding work_leads in_setup
+    work_stays work.Report = same_mode (receive bytes) _ refl
+    work_stays work.Close = λ to. absurd (false≢true to)
+    work_stays (work.Set first) = same_mode (receive bytes) _ refl
+    work_stays (work.Store i) = same_mode (receive bytes) _ refl
+    work_stays (work.Drive d) = same_mode (receive bytes) _ refl
 
-    obey-leads : (w : Work) (source : ℕ) (values : List ℕ) → Leads (receive bytes) (jobOfWork w source values s.plain)
-    unfolding jobOfWork outcomeOf plainAfter signalled settled
-    obey-leads w source values to = work-stays w (sym (ap inSetup (work-leads s.plain.registers w s.plain.core)) ∙ to)
+    obey_leads : (w : Work) (source : ℕ) (values : List ℕ) → Leads (receive bytes) (job_of_work w source values s.plain)
+    unfolding job_of_work outcome_of plain_after signalled settled
+    obey_leads w source values to = work_stays w (sym (ap in_setup (work_leads_lem s.plain.registers w s.plain.core)) ∙ to)
 
-    open-leads : (h : Header) (guess : Password) → Sound bytes h
-        → judged s.plain.registers s.plain.core.mode h (messageOf bytes) ≡ order.Guess guess → Leads (receive bytes) (jobOfGuess guess s.plain)
-    unfolding jobOfGuess refused settled
-    open-leads h guess so e =
+    open_leads : (h : Header) (guess : Password) → Sound bytes h
+        → judged s.plain.registers s.plain.core.mode h (message_of bytes) ≡ order.Guess guess → Leads (receive bytes) (job_of_guess guess s.plain)
+    unfolding job_of_guess refused settled
+    open_leads h guess so e =
         cases (λ (o : Outcome Plain Shown). Leaves (receive bytes) o.next.core.mode) (matches s.password guess)
         (λ m to. inl (record {
           start = record { bytes = bytes; guess = guess; received = refl; asks = record { header = h; sound = so; accepted = judge.asks (order.Guess guess) _ _ h _ e } };
-          right = matches-equal s.password guess m;
+          right = matches_equal s.password guess m;
         }))
-        (λ m. same-mode (receive bytes) _ refl)
+        (λ m. same_mode (receive bytes) _ refl)
 
-    get-leads : (first count source : ℕ) → Leads (receive bytes) (jobOfRead first count source s.plain)
-    unfolding jobOfRead outcomeOf plainAfter signalled settled unwritten
-    get-leads first count source =
-        let stays : Leaves (receive bytes) s.plain.core.mode = same-mode (receive bytes) _ refl in
-        both (Leads (receive bytes)) (inSetup s.plain.core.mode) stays stays
+    get_leads : (first count source : ℕ) → Leads (receive bytes) (job_of_read first count source s.plain)
+    unfolding job_of_read outcome_of plain_after signalled settled unwritten
+    get_leads first count source =
+        let stays : Leaves (receive bytes) s.plain.core.mode = same_mode (receive bytes) _ refl in
+        both (Leads (receive bytes)) (in_setup s.plain.core.mode) stays stays
 
-    order-opens : (h : Header) (o : Order) → Sound bytes h → judged s.plain.registers s.plain.core.mode h (messageOf bytes) ≡ o
-        → (source : ℕ) (values : List ℕ) → Leads (receive bytes) (jobOfOrder o source values s.plain)
-    unfolding jobOfOrder refused settled
-    order-opens h (order.Refused n) so e source values = same-mode (receive bytes) _ refl
-    order-opens h (order.Guess guess) so e source values = open-leads h guess so e
-    order-opens h (order.Read first count) so e source values = get-leads first count source
-    order-opens h (order.Work w) so e source values = obey-leads w source values
+    order_opens : (h : Header) (o : Order) → Sound bytes h → judged s.plain.registers s.plain.core.mode h (message_of bytes) ≡ o
+        → (source : ℕ) (values : List ℕ) → Leads (receive bytes) (job_of_order o source values s.plain)
+    unfolding job_of_order refused settled
+    order_opens h (order.Refused n) so e source values = same_mode (receive bytes) _ refl
+    order_opens h (order.Guess guess) so e source values = open_leads h guess so e
+    order_opens h (order.Read first count) so e source values = get_leads first count source
+    order_opens h (order.Work w) so e source values = obey_leads w source values
 
-    frame-leads : (f : Frame) → read_of bytes ≡ f → Leads (receive bytes) (jobOfFrame f (messageOf bytes) s.plain)
-    unfolding jobOfFrame garbled signalled settled
-    frame-leads (frame.Read h) e = order-opens h _ (packet.sound bytes h e) refl h.source (drop 2 (messageOf bytes))
-    frame-leads frame.Short e = same-mode (receive bytes) _ refl
-    frame-leads frame.Long e = same-mode (receive bytes) _ refl
-    frame-leads frame.Length e = same-mode (receive bytes) _ refl
-    frame-leads frame.Sum e = same-mode (receive bytes) _ refl
-    frame-leads frame.Reserved e = same-mode (receive bytes) _ refl
+    frame_leads : (f : Frame) → read_of bytes ≡ f → Leads (receive bytes) (job_of_frame f (message_of bytes) s.plain)
+    unfolding job_of_frame garbled signalled settled
+    frame_leads (frame.Read h) e = order_opens h _ (packet.sound bytes h e) refl h.source (drop 2 (message_of bytes))
+    frame_leads frame.Short e = same_mode (receive bytes) _ refl
+    frame_leads frame.Long e = same_mode (receive bytes) _ refl
+    frame_leads frame.Length e = same_mode (receive bytes) _ refl
+    frame_leads frame.Sum e = same_mode (receive bytes) _ refl
+    frame_leads frame.Reserved e = same_mode (receive bytes) _ refl
 
-  deed-leads : (d : Deed) → Leads d (jobOfDeed d s.plain)
-  unfolding jobOfDeed known jobOfPress jobOfRestart woken started jobOfBytes refused settled inSetup
-  deed-leads (press contact) =
-      both (Leads (press contact)) (leb contactCount contact) (same-mode (press contact) _ refl) (finished-leads (press contact) (begun s.plain s.plain.core) _ (same-mode (press contact) _ refl))
-  deed-leads (release contact) = both (Leads (release contact)) (leb contactCount contact) (same-mode (release contact) _ refl) (release-leads contact)
-  deed-leads tick = tick-leads
-  deed-leads (receive bytes) = frame-leads bytes (read_of bytes) refl
-  deed-leads restart = λ to. absurd (false≢true to)
+  deed_leads : (d : Deed) → Leads d (job_of_deed d s.plain)
+  unfolding job_of_deed known job_of_press job_of_restart woken started job_of_bytes refused settled in_setup
+  deed_leads (press contact) =
+      both (Leads (press contact)) (leb contact_count contact) (same_mode (press contact) _ refl) (finished_leads (press contact) (begun s.plain s.plain.core) _ (same_mode (press contact) _ refl))
+  deed_leads (release contact) = both (Leads (release contact)) (leb contact_count contact) (same_mode (release contact) _ refl) (release_leads contact)
+  deed_leads tick = tick_leads
+  deed_leads (receive bytes) = frame_leads bytes (read_of bytes) refl
+  deed_leads restart = λ to. absurd (false≢true to)
 
 only_so : OnlySo
-unfolding Product.responseOf job refused settled
+unfolding Product.response_of job refused settled
 only_so s e out =
-    cases (λ (j : SwitchJob). inSetup (settled s.password j).next.plain.core.mode ≡ true → (room ≤ e.room) × So s out e.deed) (ltb e.room room)
+    cases (λ (j : SwitchJob). in_setup (settled s.password j).next.plain.core.mode ≡ true → (room ≤ e.room) × So s out e.deed) (ltb e.room room)
     (λ h to. absurd (true≢false (sym to ∙ out)))
-    (λ h to. (ltb-false _ _ h, deed-leads s out e.deed to))
+    (λ h to. (ltb-false _ _ h, deed_leads s out e.deed to))
 
 -- A right Start Setup opens.
 module _ (s : Switch Plain) (lent : ℕ) (d : Deed) (enough : room ≤ lent) (right : ByPassword s d) where
-  right-job : job s.plain (event lent d) ≡ jobOfGuess right.start.guess s.plain
-  unfolding jobOfOrder
-  right-job =
+  right_job : job s.plain (event lent d) ≡ job_of_guess right.start.guess s.plain
+  unfolding job_of_order
+  right_job =
       let g = right.start in
       ap (λ (d : Deed). job s.plain (event lent d)) g.received
-      ∙ receive-job s.plain lent g.bytes g.asks.header (order.Guess g.guess) enough (packet.only (frame.Read g.asks.header) g.bytes g.asks.sound)
-      (judge.only s.plain.registers s.plain.core.mode g.asks.header (order.Guess g.guess) (messageOf g.bytes) g.asks.accepted)
+      ∙ receive_job s.plain lent g.bytes g.asks.header (order.Guess g.guess) enough (packet.only (frame.Read g.asks.header) g.bytes g.asks.sound)
+      (judge.only s.plain.registers s.plain.core.mode g.asks.header (order.Guess g.guess) (message_of g.bytes) g.asks.accepted)
 
-  right_answer : respond s (event lent d) ≡ answered (outcomeOf (opened s.plain.core) [] 0 reply.Silence s.plain seen.Hidden) s.password
-  unfolding jobOfGuess
+  right_answer : respond s (event lent d) ≡ answered (outcome_of (opened s.plain.core) [] 0 reply.Silence s.plain seen.Hidden) s.password
+  unfolding job_of_guess
   right_answer =
-      respond-right wallSwitch s (event lent d) right.start.guess (outcomeOf (opened s.plain.core) [] 0 reply.Silence s.plain seen.Hidden)
-      (refused 14 s.plain) right-job (equal-matches s.password right.start.guess right.right)
+      respond_right wall_switch s (event lent d) right.start.guess (outcome_of (opened s.plain.core) [] 0 reply.Silence s.plain seen.Hidden)
+      (refused 14 s.plain) right_job (equal_matches s.password right.start.guess right.right)
 
-  right-number : number_at s (event lent d) ≡ 0
-  unfolding outcomeOf answer_of answerWith
-  right-number = ap (λ a. a.shown.answer.number) right_answer
+  right_number : number_at s (event lent d) ≡ 0
+  unfolding outcome_of answer_of answer_with
+  right_number = ap (λ a. a.shown.answer.number) right_answer
 
-  right-mode : (respond s (event lent d)).next.plain.core.mode ≡ Setup
-  unfolding outcomeOf plainAfter signalled opened entering
-  right-mode = ap (λ a. a.next.plain.core.mode) right_answer
+  right_mode : (respond s (event lent d)).next.plain.core.mode ≡ Setup
+  unfolding outcome_of plain_after signalled opened entering
+  right_mode = ap (λ a. a.next.plain.core.mode) right_answer
 
-password-opens : PasswordOpens
-password-opens s e enough right =
-    (right.start.asks.accepted.asked.when, (right-number s e.room e.deed enough right, right-mode s e.room e.deed enough right))
+password_opens : PasswordOpens
+password_opens s e enough right =
+    (right.start.asks.accepted.asked.when, (right_number s e.room e.deed enough right, right_mode s e.room e.deed enough right))
 
 -- The packet that a fitter sends is one.
-own-password : (s : Switch Plain) (h : Header) → s.plain.core.mode ≡ Normal
-    → Ranges h 3 → h.link ≡ false → (h.network ≡ 0) ⊎ (h.network ≡ networkIn s.plain.registers)
-    → h.destination ≡ unitIn s.plain.registers → (h.destination ≡ 0 → ⊥) → ByPassword s (receive (startSetup h s.password))
-own-password s h normal ranges direct network unit nonzero =
+own_password : (s : Switch Plain) (h : Header) → s.plain.core.mode ≡ Normal
+    → Ranges h 3 → h.link ≡ false → (h.network ≡ 0) ⊎ (h.network ≡ network_in s.plain.registers)
+    → h.destination ≡ unit_in s.plain.registers → (h.destination ≡ 0 → ⊥) → ByPassword s (receive (start_setup h s.password))
+own_password s h normal ranges direct network unit nonzero =
     let m : List ℕ = 0x03 ∷ s.password.0 ∷ s.password.1 ∷ [] in
-    let back = reads-back h m ranges in
+    let back = reads_back h m ranges in
     record {
       start = record {
         bytes = packed h m;
@@ -200,7 +200,7 @@ own-password s h normal ranges direct network unit nonzero =
 pub opening : Opening
 opening = record {
   only = only_so;
-  password = password-opens;
+  password = password_opens;
   opens = λ s lent h enough normal ranges direct network unit nonzero.
-      (password-opens s (event lent (receive (startSetup h s.password))) enough (own-password s h normal ranges direct network unit nonzero)).1;
+      (password_opens s (event lent (receive (start_setup h s.password))) enough (own_password s h normal ranges direct network unit nonzero)).1;
 }

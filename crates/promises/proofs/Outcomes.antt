@@ -14,13 +14,13 @@ Every P (done o c) = P o.shown o.next
 Every P (compare guess right wrong) = P right.shown right.next × P wrong.shown wrong.next
 Every P (reveal show next) = (w : Password) → P (show w) next
 
-every-settled : (P : Shown → Plain → Type 0) (w : Password) (j : SwitchJob) → Every P j → P (settled w j).shown (settled w j).next.plain
+every_settled : (P : Shown → Plain → Type 0) (w : Password) (j : SwitchJob) → Every P j → P (settled w j).shown (settled w j).next.plain
 unfolding settled
-every-settled P w (done o c) h = h
-every-settled P w (compare guess right wrong) h = both (λ (o : Outcome Plain Shown). P o.shown o.next) (matches w guess) h.0 h.1
-every-settled P w (reveal show next) h = h w
+every_settled P w (done o c) h = h
+every_settled P w (compare guess right wrong) h = both (λ (o : Outcome Plain Shown). P o.shown o.next) (matches w guess) h.0 h.1
+every_settled P w (reveal show next) h = h w
 
 -- It holds of the switch's answer, whatever the password is.
-pub every-answer : (P : Shown → Plain → Type 0) (s : Switch Plain) (e : Event) → Every P (job s.plain e) → P (respond s e).shown (respond s e).next.plain
-unfolding Product.responseOf
-every-answer P s e h = every-settled P s.password (job s.plain e) h
+pub every_answer : (P : Shown → Plain → Type 0) (s : Switch Plain) (e : Event) → Every P (job s.plain e) → P (respond s e).shown (respond s e).next.plain
+unfolding Product.response_of
+every_answer P s e h = every_settled P s.password (job s.plain e) h

@@ -1,10 +1,10 @@
 -- What can alter a register: the writes of every event, in every mode, and the byte that each of the 256 places holds after them.
 use Rattle.std.specs.Prelude.{true, false, List, [], ◌∷◌, ◌++◌, ◌⊎◌, ◌≡◌, ℕ, ◌+◌, ◌-◌, ◌≤◌, ◌<◌, eqb, ltb, length, get_or, drop}
 use Rattle.words.specs.Words.{if◌then◌else◌}
-use Rattle.units.specs.Units.{percentOf}
+use Rattle.units.specs.Units.{percent_of}
 use Rattle.units.specs.declared.Percent.{Percent}
 use Rattle.units.specs.declared.Step.{Step}
-use Rattle.packet.specs.Reading.{messageOf, read_of}
+use Rattle.packet.specs.Reading.{message_of, read_of}
 use Rattle.packet.specs.declared.Frame.{Frame}
 use Rattle.packet.specs.declared.Frame.TheVariants as frame
 use Rattle.vault.specs.Job.{Switch}
@@ -14,8 +14,8 @@ use Rattle.vault.specs.declared.Mode.TheVariants.{Setup}
 use Rattle.paddle.specs.Paddle.{gesture}
 use Rattle.paddle.specs.declared.Paddle.{Paddle}
 use Rattle.model.specs.Model.{room}
-use Rattle.places.specs.Places.{levelPlace, secret, size}
-use Rattle.writes.specs.Writes.{byteAfter, factoryAt, sets}
+use Rattle.places.specs.Places.{level_place, secret, size}
+use Rattle.writes.specs.Writes.{byte_after, factory_at, sets}
 use Rattle.places.specs.declared.Counter.TheVariants.{Restarts, Setups}
 use Rattle.writes.specs.declared.Write.{Write}
 use Rattle.writes.specs.declared.Write.TheVariants.{Nothing, Count, Save, Preset, Factory, Values}
@@ -27,7 +27,7 @@ use Rattle.gestures.specs.Gestures.{leads, writes}
 use Rattle.switch.specs.Switch.{Deed, Event, Plain, press, receive, release, restart, tick}
 use Rattle.switch.specs.Respond.{respond}
 use Rattle.promises.specs.Bounds.{Sane}
-use Rattle.promises.specs.Demand3.{imageIn}
+use Rattle.promises.specs.Demand3.{image_in}
 use Rattle.promises.specs.Modes.{Closes}
 use Rattle.promises.specs.Numbers.{Asks}
 use Rattle.promises.specs.Opening.{ByFiveTaps, ByPassword}
@@ -46,13 +46,13 @@ bare write = writing write []
 
 -- 01, Paddles, 16: what each paddle's gesture writes at a tick, from the top one on, in the mode that it finds; the next finds the mode that it
 -- leaves. `writes` has the modes: five taps in Normal count in 0xFA, ten taps in Setup set the factory values, and no other gesture writes.
-unfoldable pub byPaddles : Mode → List Paddle → List Writing
-byPaddles mode [] = []
-byPaddles mode (p ∷ ps) = bare (writes mode (gesture p)) ∷ byPaddles (leads mode (gesture p)) ps
+unfoldable pub by_paddles : Mode → List Paddle → List Writing
+by_paddles mode [] = []
+by_paddles mode (p ∷ ps) = bare (writes mode (gesture p)) ∷ by_paddles (leads mode (gesture p)) ps
 
 -- 01, Paddles, 16: each 480th tick saves the percent of the level that it leaves.
-unfoldable pub bySaving : ℕ → Step → Write
-bySaving save level = if eqb save 0 then Save (percentOf level) else Nothing
+unfoldable pub by_saving : ℕ → Step → Write
+by_saving save level = if eqb save 0 then Save (percent_of level) else Nothing
 
 -- A packet that is read: Start Setup counts in 0xFA where its guess is right, Set Registers writes its values, Store Preset the percent; no
 -- other order writes.
@@ -63,42 +63,42 @@ by_order s (order.Read first count) values = []
 by_order s (order.Work work.Report) values = []
 by_order s (order.Work work.Close) values = []
 by_order s (order.Work (work.Set first)) values = writing (Values first) values ∷ []
-by_order s (order.Work (work.Store i)) values = bare (Preset i (percentOf s.plain.core.dimmer.level)) ∷ []
+by_order s (order.Work (work.Store i)) values = bare (Preset i (percent_of s.plain.core.dimmer.level)) ∷ []
 by_order s (order.Work (work.Drive d)) values = []
 
 -- A packet that is not read writes nothing.
-unfoldable pub byFrame : Switch Plain → Frame → List ℕ → List Writing
-byFrame s (frame.Read h) message = by_order s (judged s.plain.registers s.plain.core.mode h message) (drop 2 message)
-byFrame s frame.Short message = []
-byFrame s frame.Long message = []
-byFrame s frame.Length message = []
-byFrame s frame.Sum message = []
-byFrame s frame.Reserved message = []
+unfoldable pub by_frame : Switch Plain → Frame → List ℕ → List Writing
+by_frame s (frame.Read h) message = by_order s (judged s.plain.registers s.plain.core.mode h message) (drop 2 message)
+by_frame s frame.Short message = []
+by_frame s frame.Long message = []
+by_frame s frame.Length message = []
+by_frame s frame.Sum message = []
+by_frame s frame.Reserved message = []
 
 -- What a deed writes, in order, where it leaves this level.
-unfoldable pub byDeed : Switch Plain → Step → Deed → List Writing
-byDeed s level (press contact) = []
-byDeed s level (release contact) = []
-byDeed s level tick = byPaddles s.plain.core.mode s.plain.paddles ++ (bare (bySaving s.plain.core.save level) ∷ [])
-byDeed s level (receive bytes) = byFrame s (read_of bytes) (messageOf bytes)
-byDeed s level restart = bare (Count Restarts) ∷ []
+unfoldable pub by_deed : Switch Plain → Step → Deed → List Writing
+by_deed s level (press contact) = []
+by_deed s level (release contact) = []
+by_deed s level tick = by_paddles s.plain.core.mode s.plain.paddles ++ (bare (by_saving s.plain.core.save level) ∷ [])
+by_deed s level (receive bytes) = by_frame s (read_of bytes) (message_of bytes)
+by_deed s level restart = bare (Count Restarts) ∷ []
 
 -- All that an event writes, in order; without room for an answer it writes nothing.
 unfoldable pub writes_of : Switch Plain → Event → List Writing
-writes_of s e = if ltb e.room room then [] else byDeed s (respond s e).next.plain.core.dimmer.level e.deed
+writes_of s e = if ltb e.room room then [] else by_deed s (respond s e).next.plain.core.dimmer.level e.deed
 
 -- The byte of a place after writes, one after the other.
-unfoldable pub bytesAfter : List Writing → ℕ → ℕ → ℕ
-bytesAfter [] place old = old
-bytesAfter (w ∷ ws) place old = bytesAfter ws place (byteAfter w.write w.values place old)
+unfoldable pub bytes_after : List Writing → ℕ → ℕ → ℕ
+bytes_after [] place old = old
+bytes_after (w ∷ ws) place old = bytes_after ws place (byte_after w.write w.values place old)
 
 -- The byte that a switch holds at a place, the password's among them.
 abbrev pub byte_at : Switch Plain → ℕ → ℕ
-byte_at s place = get_or (imageIn s) place 0
+byte_at s place = get_or (image_in s) place 0
 
 -- All 256 registers after any event, in any mode, as one equation.
 abbrev pub OneEquation : Type 0
-OneEquation = (s : Switch Plain) (e : Event) (place : ℕ) → length s.plain.registers ≡ size → place < size → byte_at (respond s e).next place ≡ bytesAfter (writes_of s e) place (byte_at s place)
+OneEquation = (s : Switch Plain) (e : Event) (place : ℕ) → length s.plain.registers ≡ size → place < size → byte_at (respond s e).next place ≡ bytes_after (writes_of s e) place (byte_at s place)
 
 -- Something holds of every write of a list.
 abbrev pub EachWrite : (Writing → Type 0) → List Writing → Type 0
@@ -118,11 +118,11 @@ pub data Cause (s : Switch Plain) : Deed → Writing → Type 0 where
   no_write : Cause s tick (bare Nothing)
   restarted : Cause s restart (bare (Count Restarts))
   saved : (percent : Percent) → s.plain.core.save ≡ 0 → Cause s tick (bare (Save percent))
-  five-taps : (d : Deed) → ByFiveTaps s d → Cause s d (bare (Count Setups))
-  ten-taps : (i : ℕ) → Closes s i Setup 10 → Cause s tick (bare Factory)
-  right-guess : (d : Deed) → ByPassword s d → Cause s d (bare (Count Setups))
-  stored : (bytes : List ℕ) (i : ℕ) → Asks s bytes (order.Work (work.Store i)) → Cause s (receive bytes) (bare (Preset i (percentOf s.plain.core.dimmer.level)))
-  set : (bytes : List ℕ) (first : ℕ) → Asks s bytes (order.Work (work.Set first)) → Cause s (receive bytes) (writing (Values first) (drop 2 (messageOf bytes)))
+  five_taps : (d : Deed) → ByFiveTaps s d → Cause s d (bare (Count Setups))
+  ten_taps : (i : ℕ) → Closes s i Setup 10 → Cause s tick (bare Factory)
+  right_guess : (d : Deed) → ByPassword s d → Cause s d (bare (Count Setups))
+  stored : (bytes : List ℕ) (i : ℕ) → Asks s bytes (order.Work (work.Store i)) → Cause s (receive bytes) (bare (Preset i (percent_of s.plain.core.dimmer.level)))
+  set : (bytes : List ℕ) (first : ℕ) → Asks s bytes (order.Work (work.Set first)) → Cause s (receive bytes) (writing (Values first) (drop 2 (message_of bytes)))
 
 -- Every write of every event is in the table.
 abbrev pub OnlyCauses : Type 0
@@ -135,8 +135,8 @@ pub record StoredAt (s : Switch Plain) (d : Deed) (place now : ℕ) : Type 0 whe
   pub component : ℕ
   pub packet : d ≡ receive bytes
   pub asks : Asks s bytes (order.Work (work.Store component))
-  pub at : place ≡ levelPlace component
-  pub byte : now ≡ (percentOf s.plain.core.dimmer.level).0
+  pub at : place ≡ level_place component
+  pub byte : now ≡ (percent_of s.plain.core.dimmer.level).0
 
 -- The second: Set Registers over a place. It is accepted in Setup alone.
 pub record SetAt (s : Switch Plain) (d : Deed) (place now : ℕ) : Type 0 where
@@ -146,15 +146,15 @@ pub record SetAt (s : Switch Plain) (d : Deed) (place now : ℕ) : Type 0 where
   pub asks : Asks s bytes (order.Work (work.Set first))
   pub mode : s.plain.core.mode ≡ Setup
   pub least : first ≤ place
-  pub most : place < first + length (drop 2 (messageOf bytes))
-  pub byte : now ≡ get_or (drop 2 (messageOf bytes)) (place - first) 0
+  pub most : place < first + length (drop 2 (message_of bytes))
+  pub byte : now ≡ get_or (drop 2 (message_of bytes)) (place - first) 0
 
 -- The third: a tick in which ten taps find Setup. The place then has its factory value, whatever was there.
 pub record FactorySet (s : Switch Plain) (d : Deed) (place now : ℕ) : Type 0 where
   pub paddle : ℕ
   pub event : d ≡ tick
   pub closes : Closes s paddle Setup 10
-  pub byte : (old : ℕ) → now ≡ factoryAt place old
+  pub byte : (old : ℕ) → now ≡ factory_at place old
 
 -- The two bytes of the password change by Set Registers and by the factory values alone.
 abbrev pub PasswordSafe : Type 0

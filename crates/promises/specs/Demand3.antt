@@ -4,16 +4,16 @@ use Rattle.vault.specs.Job.{Switch}
 use Rattle.vault.specs.Machine.{run, transcript}
 use Rattle.vault.specs.Product.{StaysOut, alone, machine}
 use Rattle.vault.specs.Promises.{KeepsItsPassword}
-use Rattle.vault.specs.Vault.{inSetup}
+use Rattle.vault.specs.Vault.{in_setup}
 use Rattle.places.specs.Places.{size, secret}
 use Rattle.registers.specs.Registers.{Dead, image_of}
 use Rattle.outbox.specs.Outbox.{placed}
 use Rattle.switch.specs.Switch.{Plain, Shown, Deed, Event, event}
-use Rattle.switch.specs.Respond.{startedFrom, wallSwitch}
+use Rattle.switch.specs.Respond.{started_from, wall_switch}
 
 -- The 256 register bytes of a switch, the password among them.
-abbrev pub imageIn : Switch Plain → List ℕ
-imageIn s = image_of s.plain.registers s.password
+abbrev pub image_in : Switch Plain → List ℕ
+image_in s = image_of s.plain.registers s.password
 
 -- The same bytes at every place but 0x02 and 0x03.
 abbrev pub SameOutside : List ℕ → List ℕ → Type 0
@@ -23,7 +23,7 @@ SameOutside a b = (length a ≡ length b) × ((place : ℕ) → secret place ≡
 pub record Alike (s t : Switch Plain) : Type 0 where
   pub core : s.plain.core ≡ t.plain.core
   pub paddles : s.plain.paddles ≡ t.plain.paddles
-  pub registers : SameOutside (imageIn s) (imageIn t)
+  pub registers : SameOutside (image_in s) (image_in t)
 
 -- The password is held apart: the array's own bytes at its two places are 0.
 abbrev pub HeldApart : Switch Plain → Type 0
@@ -31,7 +31,7 @@ HeldApart s = Dead s.plain.registers
 
 -- The letter, demand 3, 1: not in Setup.
 abbrev pub Outside : Switch Plain → Type 0
-Outside s = inSetup s.plain.core.mode ≡ false
+Outside s = in_setup s.plain.core.mode ≡ false
 
 -- An event with the buffer that is lent to it.
 pub record Lent : Type 0 where
@@ -39,12 +39,12 @@ pub record Lent : Type 0 where
   pub deed : Deed
 
 -- The event of the switch: of the buffer it has the length.
-abbrev pub eventOf : Lent → Event
-eventOf l = event (length l.buffer) l.deed
+abbrev pub event_of : Lent → Event
+event_of l = event (length l.buffer) l.deed
 
 -- The events of a list.
 abbrev pub events : List Lent → List Event
-events ls = map eventOf ls
+events ls = map event_of ls
 
 -- The lent buffers after the events, from what is shown at each.
 unfoldable pub filled : List Shown → List Lent → List (List ℕ)
@@ -53,23 +53,23 @@ filled (x ∷ xs) [] = []
 filled (x ∷ xs) (l ∷ ls) = placed x.sent l.buffer ∷ filled xs ls
 
 -- What is seen of a switch over the events.
-abbrev pub seenOf : Switch Plain → List Lent → List Shown
-seenOf s ls = transcript (machine wallSwitch) s (events ls)
+abbrev pub seen_of : Switch Plain → List Lent → List Shown
+seen_of s ls = transcript (machine wall_switch) s (events ls)
 
 -- The switch after the events.
-abbrev pub afterAll : Switch Plain → List Lent → Switch Plain
-afterAll s ls = run (machine wallSwitch) s (events ls)
+abbrev pub after_all : Switch Plain → List Lent → Switch Plain
+after_all s ls = run (machine wall_switch) s (events ls)
 
 -- No event of the list leaves the switch in Setup. One tick can open Setup and leave it again, where a paddle closes five taps and a
 -- later one two or ten: Setup then shows in neither answer, and that tick counts as any other.
 abbrev pub NeverOpens : Switch Plain → List Lent → Type 0
-NeverOpens s ls = StaysOut (alone wallSwitch) s (events ls)
+NeverOpens s ls = StaysOut (alone wall_switch) s (events ls)
 
 -- The letter, demand 3, 2: over the events both answer, send and show the same, fill the lent buffers the same, and are alike after them.
 pub record SameToTheEye (s t : Switch Plain) (ls : List Lent) : Type 0 where
-  pub shown : seenOf s ls ≡ seenOf t ls
-  pub bytes : filled (seenOf s ls) ls ≡ filled (seenOf t ls) ls
-  pub holds : Alike (afterAll s ls) (afterAll t ls)
+  pub shown : seen_of s ls ≡ seen_of t ls
+  pub bytes : filled (seen_of s ls) ls ≡ filled (seen_of t ls) ls
+  pub holds : Alike (after_all s ls) (after_all t ls)
 
 -- The letter, demand 3, 1 and 2: two switches that are alike, outside Setup, and given the same events. The list is any stretch of events of
 -- which none leaves either in Setup; a wrong guess may be among them.
@@ -81,12 +81,12 @@ OfTwoSwitches =
 -- The same of two images of 256 bytes that differ in the password alone, both started: nothing else is asked of them.
 abbrev pub OfTwoImages : Type 0
 OfTwoImages =
-    (a b : List ℕ) (ls : List Lent) → length a ≡ size → SameOutside a b → NeverOpens (startedFrom a) ls → NeverOpens (startedFrom b) ls
-    → SameToTheEye (startedFrom a) (startedFrom b) ls
+    (a b : List ℕ) (ls : List Lent) → length a ≡ size → SameOutside a b → NeverOpens (started_from a) ls → NeverOpens (started_from b) ls
+    → SameToTheEye (started_from a) (started_from b) ls
 
 -- It is held apart in every switch that was started, whatever has happened to it since.
 abbrev pub EverApart : Type 0
-EverApart = (image : List ℕ) (ls : List Lent) → length image ≡ size → HeldApart (afterAll (startedFrom image) ls)
+EverApart = (image : List ℕ) (ls : List Lent) → length image ≡ size → HeldApart (after_all (started_from image) ls)
 
 -- Demand 3, of the full switch. `guest` is what follows from it (the letter, demand 3, 3): of one switch, or of many on one main, he can rule
 -- out no password but those that he guessed.
@@ -94,4 +94,4 @@ pub record Demand3 : Type 0 where
   pub switches : OfTwoSwitches
   pub images : OfTwoImages
   pub apart : EverApart
-  pub guest : KeepsItsPassword wallSwitch
+  pub guest : KeepsItsPassword wall_switch

@@ -4,11 +4,11 @@ use Rattle.packet.specs.Layout.{packed}
 use Rattle.writer.specs.Promises.{Ranges}
 use Rattle.packet.specs.declared.Header.{Header}
 use Rattle.vault.specs.Job.{Switch}
-use Rattle.vault.specs.Vault.{inSetup}
+use Rattle.vault.specs.Vault.{in_setup}
 use Rattle.vault.specs.declared.Mode.TheVariants.{Normal, Setup}
 use Rattle.vault.specs.declared.Password.{Password}
 use Rattle.model.specs.Model.{room}
-use Rattle.places.specs.Places.{networkIn, unitIn}
+use Rattle.places.specs.Places.{network_in, unit_in}
 use Rattle.switch.specs.Switch.{Deed, Event, Plain, event, receive, tick}
 use Rattle.switch.specs.Respond.{respond}
 use Rattle.promises.specs.Demand3.{Outside}
@@ -32,7 +32,7 @@ Enters s e = (room ≤ e.room) × (ByPassword s e.deed ⊎ ByFiveTaps s e.deed)
 
 -- Whatever finds the switch outside Setup and leaves it in Setup enters it.
 abbrev pub OnlySo : Type 0
-OnlySo = (s : Switch Plain) (e : Event) → Outside s → inSetup (respond s e).next.plain.core.mode ≡ true → Enters s e
+OnlySo = (s : Switch Plain) (e : Event) → Outside s → in_setup (respond s e).next.plain.core.mode ≡ true → Enters s e
 
 -- Such a Start Setup always opens it.
 abbrev pub PasswordOpens : Type 0
@@ -41,17 +41,17 @@ PasswordOpens =
     → (s.plain.core.mode ≡ Normal) × ((number_at s e ≡ 0) × ((respond s e).next.plain.core.mode ≡ Setup))
 
 -- The packet with a password for the guess.
-abbrev pub startSetup : Header → Password → List ℕ
-startSetup h w = packed h (0x03 ∷ w.0 ∷ w.1 ∷ [])
+abbrev pub start_setup : Header → Password → List ℕ
+start_setup h w = packed h (0x03 ∷ w.0 ∷ w.1 ∷ [])
 
 -- The letter, demand 3, 4: the right password opens this switch, for every password, from every source, on network 0 or our own.
 abbrev pub RightPasswordOpens : Type 0
 RightPasswordOpens =
     (s : Switch Plain) (lent : ℕ) (h : Header) → room ≤ lent → s.plain.core.mode ≡ Normal
-    → Ranges h 3 → h.link ≡ false → (h.network ≡ 0) ⊎ (h.network ≡ networkIn s.plain.registers)
-    → h.destination ≡ unitIn s.plain.registers → (h.destination ≡ 0 → ⊥)
-    → (number_at s (event lent (receive (startSetup h s.password))) ≡ 0)
-    × ((respond s (event lent (receive (startSetup h s.password)))).next.plain.core.mode ≡ Setup)
+    → Ranges h 3 → h.link ≡ false → (h.network ≡ 0) ⊎ (h.network ≡ network_in s.plain.registers)
+    → h.destination ≡ unit_in s.plain.registers → (h.destination ≡ 0 → ⊥)
+    → (number_at s (event lent (receive (start_setup h s.password))) ≡ 0)
+    × ((respond s (event lent (receive (start_setup h s.password)))).next.plain.core.mode ≡ Setup)
 
 -- All that is promised of what opens Setup.
 pub record Opening : Type 0 where

@@ -1,10 +1,10 @@
 -- What a tick writes, place by place, and the tick that passes Setup unseen.
 use Rattle.std.specs.Prelude.{Bool, true, false, ◌||◌, List, [], ◌∷◌, ◌++◌, ◌↔◌, ◌⊎◌, ◌≡◌, ℕ, zero, suc, ◌+◌, ◌≤◌, ◌<◌, eqb, length}
 use Rattle.words.specs.Words.{if◌then◌else◌}
-use Rattle.units.specs.Units.{percentOf}
+use Rattle.units.specs.Units.{percent_of}
 use Rattle.units.specs.declared.Step.{Step}
 use Rattle.vault.specs.Job.{Switch}
-use Rattle.vault.specs.Vault.{inSetup}
+use Rattle.vault.specs.Vault.{in_setup}
 use Rattle.vault.specs.declared.Mode.{Mode}
 use Rattle.vault.specs.declared.Mode.TheVariants.{Normal, Setup, Factory}
 use Rattle.paddle.specs.Paddle.{gesture}
@@ -12,17 +12,17 @@ use Rattle.paddle.specs.declared.Gesture.{Gesture}
 use Rattle.paddle.specs.declared.Gesture.TheVariants as gestures
 use Rattle.paddle.specs.declared.Paddle.{Paddle}
 use Rattle.model.specs.Model.{room}
-use Rattle.places.specs.Places.{counterPlace, savedPlace, size}
-use Rattle.writes.specs.Writes.{byteAfter, oneMore}
+use Rattle.places.specs.Places.{counter_place, saved_place, size}
+use Rattle.writes.specs.Writes.{byte_after, one_more}
 use Rattle.places.specs.declared.Counter.TheVariants.{Setups}
 use Rattle.writes.specs.declared.Write.TheVariants as write
 use Rattle.gestures.specs.Gestures.{leads}
 use Rattle.switch.specs.Switch.{Event, Plain, event, press, release, tick}
-use Rattle.switch.specs.Respond.{respond, startedFrom}
+use Rattle.switch.specs.Respond.{respond, started_from}
 use Rattle.promises.specs.Alters.{byte_at}
-use Rattle.promises.specs.Ticking.{pressOf, run_of, ticksOf, withRoom}
+use Rattle.promises.specs.Ticking.{press_of, run_of, ticks_of, with_room}
 use Rattle.promises.specs.Demand3.{Outside}
-use Rattle.promises.specs.Modes.{Closes, modeAt}
+use Rattle.promises.specs.Modes.{Closes, mode_at}
 use Rattle.promises.specs.Opening.{Enters}
 
 -- A run of so many taps is closed.
@@ -55,24 +55,24 @@ reset mode [] = false
 reset mode (p ∷ ps) = resets mode (gesture p) || reset (leads mode (gesture p)) ps
 
 -- 01, Registers, 8: so many more in a counter, which stops at 255.
-unfoldable pub countedBy : ℕ → ℕ → ℕ
-countedBy zero old = old
-countedBy (suc n) old = countedBy n (oneMore old)
+unfoldable pub counted_by : ℕ → ℕ → ℕ
+counted_by zero old = old
+counted_by (suc n) old = counted_by n (one_more old)
 
 -- The byte of a place after a tick that leaves this level: 0xFA counts the entries, 0xF9 has the percent where the tick saves, and every
 -- other place has its factory value where a gesture sets them, or the byte that it had.
-unfoldable pub tickedByte : Switch Plain → Step → ℕ → ℕ → ℕ
-tickedByte s level place old =
-    if eqb place (counterPlace Setups) then countedBy (openings s.plain.core.mode s.plain.paddles) old
-    else if eqb place savedPlace then (if eqb s.plain.core.save 0 then (percentOf level).0 else old)
-    else if reset s.plain.core.mode s.plain.paddles then byteAfter write.Factory [] place old
+unfoldable pub ticked_byte : Switch Plain → Step → ℕ → ℕ → ℕ
+ticked_byte s level place old =
+    if eqb place (counter_place Setups) then counted_by (openings s.plain.core.mode s.plain.paddles) old
+    else if eqb place saved_place then (if eqb s.plain.core.save 0 then (percent_of level).0 else old)
+    else if reset s.plain.core.mode s.plain.paddles then byte_after write.Factory [] place old
     else old
 
 -- All 256 registers after any tick, in any mode, with any number of paddles.
 abbrev pub EveryTick : Type 0
 EveryTick =
     (s : Switch Plain) (lent place : ℕ) → room ≤ lent → length s.plain.registers ≡ size → place < size
-    → byte_at (respond s (event lent tick)).next place ≡ tickedByte s (respond s (event lent tick)).next.plain.core.dimmer.level place (byte_at s place)
+    → byte_at (respond s (event lent tick)).next place ≡ ticked_byte s (respond s (event lent tick)).next.plain.core.dimmer.level place (byte_at s place)
 
 -- The next tick sets the factory values: a paddle closes ten taps in it and finds Setup. Setup may be the mode before the tick, or made within
 -- it; the mode after it may be any.
@@ -99,8 +99,8 @@ pub record PassesUnseen (s : Switch Plain) : Type 0 where
   pub before : Outside s
   pub paddle : ℕ
   pub there : paddle < length s.plain.paddles
-  pub finds : modeAt s paddle ≡ Setup
-  pub after : inSetup (modeAt s (length s.plain.paddles)) ≡ false
+  pub finds : mode_at s paddle ≡ Setup
+  pub after : in_setup (mode_at s (length s.plain.paddles)) ≡ false
 
 -- The events that enter Setup from outside and leave the switch outside are those ticks, and no others.
 abbrev pub UnseenExactly : Type 0
@@ -128,38 +128,38 @@ UnseenByTaps = (s : Switch Plain) → PassesUnseen s ↔ OpensAndLeaves s
 
 -- A press of the top paddle with these events in it.
 abbrev pub around : List Event → List Event
-around es = withRoom (press 0) ∷ (es ++ withRoom (release 0) ∷ [])
+around es = with_room (press 0) ∷ (es ++ with_room (release 0) ∷ [])
 
 -- A tap of the top alone.
-abbrev pub tapAlone : List Event
-tapAlone = around (ticksOf 60)
+abbrev pub tap_alone : List Event
+tap_alone = around (ticks_of 60)
 
 -- A tap of the top with a tap of the bottom in it.
-abbrev pub withOne : List Event
-withOne = around (pressOf 60 1)
+abbrev pub with_one : List Event
+with_one = around (press_of 60 1)
 
 -- A tap of the top with two of the bottom in it.
-abbrev pub withTwo : List Event
-withTwo = around (pressOf 60 1 ++ pressOf 60 1)
+abbrev pub with_two : List Event
+with_two = around (press_of 60 1 ++ press_of 60 1)
 
 -- Five taps of the top and two of the bottom, and the ticks before the one that closes both runs.
-abbrev pub throughToNormal : List Event
-throughToNormal = tapAlone ++ (tapAlone ++ (tapAlone ++ (withOne ++ (withOne ++ ticksOf 179))))
+abbrev pub through_to_normal : List Event
+through_to_normal = tap_alone ++ (tap_alone ++ (tap_alone ++ (with_one ++ (with_one ++ ticks_of 179))))
 
 -- Five taps of the top and ten of the bottom, and the ticks before the one that closes both runs.
-abbrev pub throughToFactory : List Event
-throughToFactory = withTwo ++ (withTwo ++ (withTwo ++ (withTwo ++ (withTwo ++ ticksOf 179))))
+abbrev pub through_to_factory : List Event
+through_to_factory = with_two ++ (with_two ++ (with_two ++ (with_two ++ (with_two ++ ticks_of 179))))
 
 -- The next tick passes Setup unseen and leaves this mode.
 pub record Reaches (s : Switch Plain) (to : Mode) : Type 0 where
   pub passes : PassesUnseen s
-  pub mode : (respond s (withRoom tick)).next.plain.core.mode ≡ to
+  pub mode : (respond s (with_room tick)).next.plain.core.mode ≡ to
 
 -- Both kinds are reached from every start, by the paddles alone.
 pub record ReachedByTaps : Type 0 where
-  pub normal : (image : List ℕ) → Reaches (run_of (startedFrom image) throughToNormal) Normal
-  pub factory : (image : List ℕ) → Reaches (run_of (startedFrom image) throughToFactory) Factory
-  pub sets : (image : List ℕ) → SetsFactory (run_of (startedFrom image) throughToFactory)
+  pub normal : (image : List ℕ) → Reaches (run_of (started_from image) through_to_normal) Normal
+  pub factory : (image : List ℕ) → Reaches (run_of (started_from image) through_to_factory) Factory
+  pub sets : (image : List ℕ) → SetsFactory (run_of (started_from image) through_to_factory)
 
 -- All that is promised of the ticks that pass Setup.
 pub record Passing : Type 0 where

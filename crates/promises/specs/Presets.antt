@@ -3,11 +3,11 @@ use Rattle.std.specs.Prelude.{List, ◌⊎◌, ◌≡◌, ℕ, ◌≤◌}
 use Rattle.vault.specs.Job.{Switch}
 use Rattle.vault.specs.Machine.{Throughout, run}
 use Rattle.vault.specs.Product.{machine}
-use Rattle.writes.specs.Writes.{factoryAt}
+use Rattle.writes.specs.Writes.{factory_at}
 use Rattle.judge.specs.declared.Order.TheVariants as order
 use Rattle.judge.specs.declared.Work.TheVariants as work
 use Rattle.switch.specs.Switch.{Deed, Event, Plain, receive}
-use Rattle.switch.specs.Respond.{respond, wallSwitch}
+use Rattle.switch.specs.Respond.{respond, wall_switch}
 use Rattle.promises.specs.Alters.{FactorySet, SetAt, StoredAt, byte_at}
 use Rattle.promises.specs.Bounds.{Sane}
 use Rattle.promises.specs.Demand3.{Outside}
@@ -31,7 +31,7 @@ PresetSafe =
 
 -- 01, Lamp, start, factory values, 6: the factory value of every preset is 255.
 abbrev pub FactoryPreset : Type 0
-FactoryPreset = (place old : ℕ) → PresetPlace place → factoryAt place old ≡ 255
+FactoryPreset = (place old : ℕ) → PresetPlace place → factory_at place old ≡ 255
 
 -- At an event, Store Preset alone alters presets.
 abbrev pub OnlyStored : Switch Plain → Event → Type 0
@@ -41,12 +41,12 @@ OnlyStored s e =
 
 -- At every event of a run that is so, and the run ends outside Setup.
 pub record FromOutside (s : Switch Plain) (es : List Event) : Type 0 where
-  pub presets : Throughout (machine wallSwitch) OnlyStored s es
-  pub outside : Outside (run (machine wallSwitch) s es)
+  pub presets : Throughout (machine wall_switch) OnlyStored s es
+  pub outside : Outside (run (machine wall_switch) s es)
 
 -- So it is from outside Setup, as long as no event enters it.
 abbrev pub OverRuns : Type 0
-OverRuns = (s : Switch Plain) (es : List Event) → Sane s.plain → Outside s → Throughout (machine wallSwitch) (λ t e. Enters t e → ⊥) s es → FromOutside s es
+OverRuns = (s : Switch Plain) (es : List Event) → Sane s.plain → Outside s → Throughout (machine wall_switch) (λ t e. Enters t e → ⊥) s es → FromOutside s es
 
 -- No Store Preset is accepted at an event.
 abbrev pub NoneStored : Switch Plain → Event → Type 0
@@ -55,8 +55,8 @@ NoneStored s e = (bytes : List ℕ) (i : ℕ) → e.deed ≡ receive bytes → A
 -- Where none is accepted and no event enters Setup, every preset stays as it was.
 abbrev pub PresetsStay : Type 0
 PresetsStay =
-    (s : Switch Plain) (es : List Event) → Sane s.plain → Outside s → Throughout (machine wallSwitch) (λ t e. (Enters t e → ⊥) × NoneStored t e) s es
-    → (place : ℕ) → PresetPlace place → byte_at (run (machine wallSwitch) s es) place ≡ byte_at s place
+    (s : Switch Plain) (es : List Event) → Sane s.plain → Outside s → Throughout (machine wall_switch) (λ t e. (Enters t e → ⊥) × NoneStored t e) s es
+    → (place : ℕ) → PresetPlace place → byte_at (run (machine wall_switch) s es) place ≡ byte_at s place
 
 -- All that is promised of the presets.
 pub record Presets : Type 0 where

@@ -4,10 +4,10 @@ use Rattle.vault.specs.Machine.{run}
 use Rattle.vault.specs.Product.{machine}
 use Rattle.places.specs.Places.{size}
 use Rattle.outbox.specs.Outbox.{placed, tally}
-use Rattle.state.specs.State.{counterCount, numberCount}
+use Rattle.state.specs.State.{counter_count, number_count}
 use Rattle.panel.specs.Panel.{byte_count}
-use Rattle.switch.specs.Switch.{Arrays, Deed, Event, answerWith, event, keptIn, switchIn}
-use Rattle.switch.specs.Respond.{Responds, Starts, respond, startedFrom, wallSwitch}
+use Rattle.switch.specs.Switch.{Arrays, Deed, Event, answer_with, event, kept_in, switch_in}
+use Rattle.switch.specs.Respond.{Responds, Starts, respond, started_from, wall_switch}
 use Rattle.answers.specs.declared.Answer.{Answer}
 
 -- What an event function hands back.
@@ -29,10 +29,10 @@ pub record StoodAt (before : ℕ) (k : Arrays) : Type 0 where
   pub whole : length image ≡ size
   pub events : List Event
   pub count : length events ≡ before
-  pub counted : length k.counters ≡ counterCount
-  pub numbered : length k.numbers ≡ numberCount
+  pub counted : length k.counters ≡ counter_count
+  pub numbered : length k.numbers ≡ number_count
   pub moved : length k.paddles ≡ byte_count
-  pub holds : switchIn k ≡ run (machine wallSwitch) (startedFrom image) events
+  pub holds : switch_in k ≡ run (machine wall_switch) (started_from image) events
 
 -- What it hands back meets the contract of the event.
 abbrev pub Right : Deed → Arrays → List ℕ → Told → Type 0
@@ -47,12 +47,12 @@ Meets r = (before : ℕ) (deed : Deed) (k : Arrays) (out : List ℕ) → StoodAt
 -- The right one.
 abbrev pub honest : Rival
 honest before deed k out =
-    let a = respond (switchIn k) (event (length out) deed) in
-    told a.shown.answer (keptIn k a.next) (placed a.shown.sent out)
+    let a = respond (switch_in k) (event (length out) deed) in
+    told a.shown.answer (kept_in k a.next) (placed a.shown.sent out)
 
 -- 01, How much each contract says, 3: the first rival refuses all events, by one number, and changes nothing.
 abbrev pub refusing : ℕ → Rival
-refusing number before deed k out = told (answerWith number (tally []) k.registers (switchIn k).plain.core) k out
+refusing number before deed k out = told (answer_with number (tally []) k.registers (switch_in k).plain.core) k out
 
 -- 01, How much each contract says, 3: the second always gives one answer, and is honest in all else.
 abbrev pub fixed : Answer → Rival

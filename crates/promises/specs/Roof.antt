@@ -5,7 +5,7 @@ use Rattle.packet.specs.Promises.{ReadExactly}
 use Rattle.writer.specs.Promises.{ReadsBack, ReadsBackLent, WorkedPackets, WritesBack, WritesBackLent, WritesOneWay, WrittenExactly}
 use Rattle.herald.specs.Promises.{AnnouncedReads, Announces, Hides}
 use Rattle.post.specs.Promises.{RepliedReads}
-use Rattle.host.specs.Host.{KeepsWhatItRead, MirrorsBack, RefusedStartLeavesAll, SpeaksOneWay, StartForgets, inFigures}
+use Rattle.host.specs.Host.{KeepsWhatItRead, MirrorsBack, RefusedStartLeavesAll, SpeaksOneWay, StartForgets, in_figures}
 use Rattle.promises.specs.Demand3.{Demand3}
 use Rattle.promises.specs.Bounds.{WithinBounds}
 use Rattle.promises.specs.Numbers.{Numbers}
@@ -25,15 +25,15 @@ use Rattle.promises.specs.Clock.{Clock}
 pub record Demand1 : Type 0 where
   pub numbers : Numbers
   pub writer : WrittenExactly
-  pub refused-start : RefusedStartLeavesAll
+  pub refused_start : RefusedStartLeavesAll
 
 -- The letter, demand 2, 2: one layout serves reader and writer, which undo each other; what the switch sends, its own reader takes.
 pub record OneLayout : Type 0 where
   pub reader : ReadExactly
-  pub reads-back : ReadsBack
-  pub writes-back : WritesBack
-  pub reads-back-lent : ReadsBackLent
-  pub writes-back-lent : WritesBackLent
+  pub reads_back : ReadsBack
+  pub writes_back : WritesBack
+  pub reads_back_lent : ReadsBackLent
+  pub writes_back_lent : WritesBackLent
   pub one_way : WritesOneWay
   pub worked : WorkedPackets
   pub announces : (all : List ℕ) (paddle : ℕ) (p : Percent) → Announces all paddle p
@@ -52,9 +52,9 @@ pub record Library : Type 0 where
 -- contract fixes every outcome and shuts out the wrong switches; the cases of document 01 hold.
 pub record Demand2 : Type 0 where
   pub calls : AfterAnyCalls (λ a. a)
-  pub spoken : AfterAnyCalls inFigures
+  pub spoken : AfterAnyCalls in_figures
   pub outcome : OneOutcome
-  pub shuts-out : ShutsOut
+  pub shuts_out : ShutsOut
   pub bounds : WithinBounds
   pub cases : Cases
   pub by_itself : ByItself
@@ -74,7 +74,7 @@ pub record Besides : Type 0 where
 
 -- The one promise: the three demands, and what else we answer for.
 pub record AnsweredFor : Type 0 where
-  pub demand-1 : Demand1
-  pub demand-2 : Demand2
-  pub demand-3 : Demand3
+  pub demand_1 : Demand1
+  pub demand_2 : Demand2
+  pub demand_3 : Demand3
   pub besides : Besides

@@ -8,12 +8,12 @@ use native.Mathlib.Omega.{arith}
 use borrow.Author.Tests.{ltb-true, eqb-true, eqb-false, lt-ltb}
 use lib.Dec.{ltb, eqb}
 use Rattle.words.proofs.Laws.{cases, neither, tests}
-use Rattle.vault.specs.Vault.{inSetup}
+use Rattle.vault.specs.Vault.{in_setup}
 use Rattle.vault.specs.declared.Mode.{Mode}
 use Rattle.vault.specs.declared.Mode.TheVariants.{Normal, Setup, Factory}
-use Rattle.levels.specs.Levels.{optionsOf}
+use Rattle.levels.specs.Levels.{options_of}
 use Rattle.packet.specs.declared.Header.{Header}
-use Rattle.places.specs.Places.{networkIn, unitIn, dimmingIn}
+use Rattle.places.specs.Places.{network_in, unit_in, dimming_in}
 use Rattle.registers.specs.Registers.{found}
 use Rattle.registers.specs.declared.Found.{Found}
 use Rattle.registers.specs.declared.Found.TheVariants.{At, Nowhere}
@@ -22,14 +22,14 @@ use Rattle.verbs.specs.declared.Verb.TheVariants.{Open, Close, Get, Set, Activat
 use Rattle.verbs.proofs.Checks.{both_say}
 use Rattle.reach.specs.declared.Target.{Target}
 use Rattle.reach.specs.declared.Target.TheVariants.{Nobody, Everyone, Us, Component}
-use Rattle.reach.specs.Reach.{heard, directly, matching, target_of, reached, toUs, directTo, byLink, isNormal, permitted, componentOf}
+use Rattle.reach.specs.Reach.{heard, directly, matching, target_of, reached, to_us, direct_to, by_link, is_normal, permitted, component_of}
 use Rattle.reach.specs.Promises.{Unheard, NotFor, Unreached, ToUs, AskedToReply, Permitted, ByLink}
 
 -- 9: a packet is not heard exactly when its row says.
-pub heard-says : (all : List ℕ) (h : Header) → (heard all h.network ≡ false) ↔ Unheard all h
+pub heard_says : (all : List ℕ) (h : Header) → (heard all h.network ≡ false) ↔ Unheard all h
 unfolding heard
-heard-says all h =
-    (λ e. let two = neither (eqb h.network 0) (eqb h.network (networkIn all)) e in (eqb-false _ _ two.0, eqb-false _ _ two.1), λ u. search tests)
+heard_says all h =
+    (λ e. let two = neither (eqb h.network 0) (eqb h.network (network_in all)) e in (eqb-false _ _ two.0, eqb-false _ _ two.1), λ u. search tests)
 
 -- Whom the packet reaches, in the words of the table.
 abbrev pub Aimed : Target → List ℕ → Header → Type 0
@@ -44,15 +44,15 @@ aimed all h =
     let whom : Target → Type 0 = λ t. Aimed t all h in
     cases whom h.link (λ l. linked l (found all h.destination) refl)
     (λ l. cases whom (eqb h.destination 0) (λ z. (l, eqb-true _ _ z))
-    (λ z. cases whom (eqb h.destination (unitIn all)) (λ u. (l, (eqb-true _ _ u, eqb-false _ _ z))) (λ u. rw l (eqb-false _ _ z, eqb-false _ _ u))))
+    (λ z. cases whom (eqb h.destination (unit_in all)) (λ u. (l, (eqb-true _ _ u, eqb-false _ _ z))) (λ u. rw l (eqb-false _ _ z, eqb-false _ _ u))))
   where
     linked : h.link ≡ true → (f : Found) → found all h.destination ≡ f → Aimed (matching f) all h
     linked l (At i) e = (l, e)
     linked l Nowhere e = rw l e
 
 -- 10: it reaches nobody exactly when its row says.
-pub reached-says : (all : List ℕ) (h : Header) → (reached (target_of all h) ≡ false) ↔ Unreached all h
-reached-says all h = (go (target_of all h) (aimed all h), λ u. back (target_of all h) (aimed all h) u)
+pub reached_says : (all : List ℕ) (h : Header) → (reached (target_of all h) ≡ false) ↔ Unreached all h
+reached_says all h = (go (target_of all h) (aimed all h), λ u. back (target_of all h) (aimed all h) u)
   where
     go : (t : Target) → Aimed t all h → reached t ≡ false → Unreached all h
     go Nobody a e = a
@@ -69,71 +69,71 @@ reached-says all h = (go (target_of all h) (aimed all h), λ u. back (target_of 
         let z : ◌≡◌ {A = ℕ} 0 1 = cc in absurd (omega arith)
 
 -- 13: what is permitted: by the mode ..
-normal-says : (mode : Mode) → (isNormal mode ≡ true) ↔ (mode ≡ Normal)
-normal-says mode = (go mode, ap isNormal)
+normal_says : (mode : Mode) → (is_normal mode ≡ true) ↔ (mode ≡ Normal)
+normal_says mode = (go mode, ap is_normal)
   where
-    go : (mode : Mode) → isNormal mode ≡ true → mode ≡ Normal
+    go : (mode : Mode) → is_normal mode ≡ true → mode ≡ Normal
     go Normal e = refl
     go Setup e = absurd (false≢true e)
     go Factory e = absurd (false≢true e)
 
-setup-says : (mode : Mode) → (inSetup mode ≡ true) ↔ (mode ≡ Setup)
-unfolding inSetup
-setup-says mode = (go mode, ap inSetup)
+setup_says : (mode : Mode) → (in_setup mode ≡ true) ↔ (mode ≡ Setup)
+unfolding in_setup
+setup_says mode = (go mode, ap in_setup)
   where
-    go : (mode : Mode) → inSetup mode ≡ true → mode ≡ Setup
+    go : (mode : Mode) → in_setup mode ≡ true → mode ≡ Setup
     go Setup e = refl
     go Normal e = absurd (false≢true e)
     go Factory e = absurd (false≢true e)
 
 -- .. the kind of packet, of one that is heard and reaches somebody ..
 module _ (all : List ℕ) (h : Header) where
-  us-says : (t : Target) → Aimed t all h → reached t ≡ true → (toUs t ≡ true) ↔ ToUs all h
-  us-says Nobody a r = absurd (false≢true r)
-  us-says Everyone a r = (λ e. absurd (false≢true e), λ w. absurd (w.1.1 a.1))
-  us-says Us a r = (λ e. a, λ w. refl)
-  us-says (Component i) a r = (λ e. absurd (false≢true e), λ w. absurd (true≢false (sym a.0 ∙ w.0)))
+  us_says : (t : Target) → Aimed t all h → reached t ≡ true → (to_us t ≡ true) ↔ ToUs all h
+  us_says Nobody a r = absurd (false≢true r)
+  us_says Everyone a r = (λ e. absurd (false≢true e), λ w. absurd (w.1.1 a.1))
+  us_says Us a r = (λ e. a, λ w. refl)
+  us_says (Component i) a r = (λ e. absurd (false≢true e), λ w. absurd (true≢false (sym a.0 ∙ w.0)))
 
-  direct-says : (t : Target) → Aimed t all h → reached t ≡ true → (directTo t ≡ true) ↔ (h.link ≡ false)
-  direct-says Nobody a r = absurd (false≢true r)
-  direct-says Everyone a r = (λ e. a.0, λ w. refl)
-  direct-says Us a r = (λ e. a.0, λ w. refl)
-  direct-says (Component i) a r = (λ e. absurd (false≢true e), λ w. absurd (true≢false (sym a.0 ∙ w)))
+  direct_says : (t : Target) → Aimed t all h → reached t ≡ true → (direct_to t ≡ true) ↔ (h.link ≡ false)
+  direct_says Nobody a r = absurd (false≢true r)
+  direct_says Everyone a r = (λ e. a.0, λ w. refl)
+  direct_says Us a r = (λ e. a.0, λ w. refl)
+  direct_says (Component i) a r = (λ e. absurd (false≢true e), λ w. absurd (true≢false (sym a.0 ∙ w)))
 
-  link-says : (t : Target) → Aimed t all h → reached t ≡ true → (byLink t ≡ true) ↔ (h.link ≡ true)
-  link-says Nobody a r = absurd (false≢true r)
-  link-says Everyone a r = (λ e. absurd (false≢true e), λ w. absurd (true≢false (sym w ∙ a.0)))
-  link-says Us a r = (λ e. absurd (false≢true e), λ w. absurd (true≢false (sym w ∙ a.0)))
-  link-says (Component i) a r = (λ e. a.0, λ w. refl)
+  link_says : (t : Target) → Aimed t all h → reached t ≡ true → (by_link t ≡ true) ↔ (h.link ≡ true)
+  link_says Nobody a r = absurd (false≢true r)
+  link_says Everyone a r = (λ e. absurd (false≢true e), λ w. absurd (true≢false (sym w ∙ a.0)))
+  link_says Us a r = (λ e. absurd (false≢true e), λ w. absurd (true≢false (sym w ∙ a.0)))
+  link_says (Component i) a r = (λ e. a.0, λ w. refl)
 
   -- .. the source ..
-  asked-says : (t : Target) → Aimed t all h → reached t ≡ true → ((toUs t && ltb 0 h.source) ≡ true) ↔ AskedToReply all h
-  asked-says t a r = both_say (toUs t) (ltb 0 h.source) (us-says t a r) (λ e z. let k : 0 < h.source = ltb-true _ _ e in omega arith, λ n. lt-ltb 0 h.source (omega arith))
+  asked_says : (t : Target) → Aimed t all h → reached t ≡ true → ((to_us t && ltb 0 h.source) ≡ true) ↔ AskedToReply all h
+  asked_says t a r = both_say (to_us t) (ltb 0 h.source) (us_says t a r) (λ e z. let k : 0 < h.source = ltb-true _ _ e in omega arith, λ n. lt-ltb 0 h.source (omega arith))
 
   -- .. all together.
-  pub permitted-says : (v : Verb) (mode : Mode) (t : Target) → Aimed t all h → reached t ≡ true
-      → (permitted v t mode h.source (optionsOf (dimmingIn all)).capable ≡ true) ↔ Permitted v all mode h
+  pub permitted_says : (v : Verb) (mode : Mode) (t : Target) → Aimed t all h → reached t ≡ true
+      → (permitted v t mode h.source (options_of (dimming_in all)).capable ≡ true) ↔ Permitted v all mode h
   unfolding permitted
-  permitted-says Open mode t a r = both_say (toUs t) (isNormal mode) (us-says t a r) (normal-says mode)
-  permitted-says Close mode t a r = both_say (directTo t) (inSetup mode) (direct-says t a r) (setup-says mode)
-  permitted-says Get mode t a r = asked-says t a r
-  permitted-says Set mode t a r = both_say (toUs t) (inSetup mode) (us-says t a r) (setup-says mode)
-  permitted-says Activate mode t a r = link-says t a r
-  permitted-says Deactivate mode t a r = link-says t a r
-  permitted-says Goto mode t a r = (λ e. tt, λ w. refl)
-  permitted-says FadeStart mode t a r = (λ e. e, λ w. w)
-  permitted-says FadeStop mode t a r = (λ e. tt, λ w. refl)
-  permitted-says Blink mode t a r = (λ e. tt, λ w. refl)
-  permitted-says Report mode t a r = asked-says t a r
-  permitted-says Store mode t a r = link-says t a r
-  permitted-says Unlisted mode t a r = (λ e. absurd (false≢true e), λ w. absurd w)
+  permitted_says Open mode t a r = both_say (to_us t) (is_normal mode) (us_says t a r) (normal_says mode)
+  permitted_says Close mode t a r = both_say (direct_to t) (in_setup mode) (direct_says t a r) (setup_says mode)
+  permitted_says Get mode t a r = asked_says t a r
+  permitted_says Set mode t a r = both_say (to_us t) (in_setup mode) (us_says t a r) (setup_says mode)
+  permitted_says Activate mode t a r = link_says t a r
+  permitted_says Deactivate mode t a r = link_says t a r
+  permitted_says Goto mode t a r = (λ e. tt, λ w. refl)
+  permitted_says FadeStart mode t a r = (λ e. e, λ w. w)
+  permitted_says FadeStop mode t a r = (λ e. tt, λ w. refl)
+  permitted_says Blink mode t a r = (λ e. tt, λ w. refl)
+  permitted_says Report mode t a r = asked_says t a r
+  permitted_says Store mode t a r = link_says t a r
+  permitted_says Unlisted mode t a r = (λ e. absurd (false≢true e), λ w. absurd w)
 
   -- The component of a link packet is the matching one.
-  pub component-says : (t : Target) → Aimed t all h → reached t ≡ true → h.link ≡ true → ByLink (componentOf t) all h
-  component-says Nobody a r l = absurd (false≢true r)
-  component-says Everyone a r l = absurd (true≢false (sym l ∙ a.0))
-  component-says Us a r l = absurd (true≢false (sym l ∙ a.0))
-  component-says (Component i) a r l = a
+  pub component_says : (t : Target) → Aimed t all h → reached t ≡ true → h.link ≡ true → ByLink (component_of t) all h
+  component_says Nobody a r l = absurd (false≢true r)
+  component_says Everyone a r l = absurd (true≢false (sym l ∙ a.0))
+  component_says Us a r l = absurd (true≢false (sym l ∙ a.0))
+  component_says (Component i) a r l = a
 
-  pub component-is : (t : Target) (i : ℕ) → Aimed t all h → reached t ≡ true → ByLink i all h → componentOf t ≡ i
-  component-is t i a r b = let own = component-says t a r b.0 in cc
+  pub component_is : (t : Target) (i : ℕ) → Aimed t all h → reached t ≡ true → ByLink i all h → component_of t ≡ i
+  component_is t i a r b = let own = component_says t a r b.0 in cc

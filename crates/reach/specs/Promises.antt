@@ -2,9 +2,9 @@
 use Rattle.std.specs.Prelude.{Bool, true, false, List, ◌≡◌, ℕ}
 use Rattle.vault.specs.declared.Mode.{Mode}
 use Rattle.vault.specs.declared.Mode.TheVariants.{Normal, Setup}
-use Rattle.levels.specs.Levels.{optionsOf}
+use Rattle.levels.specs.Levels.{options_of}
 use Rattle.packet.specs.declared.Header.{Header}
-use Rattle.places.specs.Places.{networkIn, unitIn, dimmingIn}
+use Rattle.places.specs.Places.{network_in, unit_in, dimming_in}
 use Rattle.registers.specs.Registers.{found}
 use Rattle.registers.specs.declared.Found.TheVariants.{At, Nowhere}
 use Rattle.verbs.specs.declared.Verb.{Verb}
@@ -12,11 +12,11 @@ use Rattle.verbs.specs.declared.Verb.TheVariants.{Open, Close, Get, Set, Activat
 
 -- 01, Answer numbers, row 9: another network than 0 and our own.
 abbrev pub Unheard : List ℕ → Header → Type 0
-Unheard all h = (h.network ≡ 0 → ⊥) × (h.network ≡ networkIn all → ⊥)
+Unheard all h = (h.network ≡ 0 → ⊥) × (h.network ≡ network_in all → ⊥)
 
 -- 01, Answer numbers, row 10: by its destination, a direct packet is neither for all units nor for ours, a link packet for no component.
 abbrev pub NotFor : Bool → List ℕ → ℕ → Type 0
-NotFor false all destination = (destination ≡ 0 → ⊥) × (destination ≡ unitIn all → ⊥)
+NotFor false all destination = (destination ≡ 0 → ⊥) × (destination ≡ unit_in all → ⊥)
 NotFor true all destination = found all destination ≡ Nowhere
 
 -- 01, Answer numbers, row 10, of a header.
@@ -25,7 +25,7 @@ Unreached all h = NotFor h.link all h.destination
 
 -- 01, Commands, 3: direct, to our own unit and not to 0.
 abbrev pub ToUs : List ℕ → Header → Type 0
-ToUs all h = (h.link ≡ false) × ((h.destination ≡ unitIn all) × (h.destination ≡ 0 → ⊥))
+ToUs all h = (h.link ≡ false) × ((h.destination ≡ unit_in all) × (h.destination ≡ 0 → ⊥))
 
 -- 01, Commands, 8: to us, from a source that a reply can go to.
 abbrev pub AskedToReply : List ℕ → Header → Type 0
@@ -33,7 +33,7 @@ AskedToReply all h = ToUs all h × (h.source ≡ 0 → ⊥)
 
 -- 01, Commands, 2: a load that can dim, as Fade Start needs it.
 abbrev pub Capable : List ℕ → Type 0
-Capable all = (optionsOf (dimmingIn all)).capable ≡ true
+Capable all = (options_of (dimming_in all)).capable ≡ true
 
 -- 01, Answer numbers, row 13, is where this does not hold: for each command its kind of packet, its mode and what else it needs (01,
 -- Commands, 1 to 4, 7 and 8).

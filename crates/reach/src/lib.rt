@@ -1,7 +1,8 @@
 // Whom a packet reaches, and which commands it may bring there: the checks 9, 10 and 13.
+#![tactic(auto)]
 ghost use Rattle.std.specs.Prelude.{◌≡◌};
-ghost use Rattle.vault.specs.Vault.{inSetup};
-ghost use Rattle.reach.specs.Reach.{heard, directly, matching, target_of, reached, toUs, directTo, byLink, isNormal, permitted, componentOf};
+ghost use Rattle.vault.specs.Vault.{in_setup};
+ghost use Rattle.reach.specs.Reach.{heard, directly, matching, target_of, reached, to_us, direct_to, by_link, is_normal, permitted, component_of};
 
 use packet::Header;
 use registers::Found;
@@ -9,7 +10,7 @@ use vault::Mode;
 use verbs::Verb;
 
 // Whom a packet reaches: nobody here, every unit, this unit, or one of the receive components.
-#[derive(Drop)]
+#[derive(Clone, Copy)]
 pub enum Target {
     Nobody,
     Everyone,
@@ -74,7 +75,7 @@ pub fn permitted(verb: Verb, target: Target, mode: Mode, source: u8, capable: bo
 }
 
 fn in_normal(mode: Mode) -> bool
-    ensures { result ≡ isNormal mode }
+    ensures { result ≡ is_normal mode }
 {
     match mode {
         Mode::Normal => true,
@@ -84,7 +85,7 @@ fn in_normal(mode: Mode) -> bool
 }
 
 fn in_setup(mode: Mode) -> bool
-    ensures { result ≡ inSetup mode }
+    ensures { result ≡ in_setup mode }
 {
     match mode {
         Mode::Normal => false,
@@ -106,7 +107,7 @@ impl Target {
     }
 
     fn to_us(self) -> bool
-        ensures { result ≡ toUs self }
+        ensures { result ≡ to_us self }
     {
         match self {
             Target::Nobody => false,
@@ -117,7 +118,7 @@ impl Target {
     }
 
     fn direct(self) -> bool
-        ensures { result ≡ directTo self }
+        ensures { result ≡ direct_to self }
     {
         match self {
             Target::Nobody => false,
@@ -128,7 +129,7 @@ impl Target {
     }
 
     fn by_link(self) -> bool
-        ensures { result ≡ byLink self }
+        ensures { result ≡ by_link self }
     {
         match self {
             Target::Nobody => false,
@@ -140,7 +141,7 @@ impl Target {
 
     // The component that a link packet reaches.
     pub fn component(self) -> u8
-        ensures { result ≡ componentOf self }
+        ensures { result ≡ component_of self }
     {
         match self {
             Target::Nobody => 0,

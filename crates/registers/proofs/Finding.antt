@@ -25,10 +25,10 @@ none_more all link i k e rest j from below m =
     (λ at. let here : j ≡ i = omega arith in eqb-false (link_of all i) link e (rw here at m))
 
 -- What a search among n components from the i-th on finds, and what it passes over.
-seek-at : (all : List ℕ) (link k i n : ℕ) → seek all link i n ≡ At k → (k < i + n) × ((link_of all k ≡ link) × NoneFrom all link i k)
+seek_at : (all : List ℕ) (link k i n : ℕ) → seek all link i n ≡ At k → (k < i + n) × ((link_of all k ≡ link) × NoneFrom all link i k)
 unfolding seek
-seek-at all link k i zero e = absurd (let z : ◌≡◌ {A = ℕ} 0 1 = cc in omega arith)
-seek-at all link k i (suc n) e = go (eqb (link_of all i) link) refl e (seek-at all link k (i + 1) n)
+seek_at all link k i zero e = absurd (let z : ◌≡◌ {A = ℕ} 0 1 = cc in omega arith)
+seek_at all link k i (suc n) e = go (eqb (link_of all i) link) refl e (seek_at all link k (i + 1) n)
   where
     go : (t : Bool) → eqb (link_of all i) link ≡ t → cond t (At i) (seek all link (i + 1) n) ≡ At k
         → (seek all link (i + 1) n ≡ At k → (k < i + 1 + n) × ((link_of all k ≡ link) × NoneFrom all link (i + 1) k))
@@ -40,10 +40,10 @@ seek-at all link k i (suc n) e = go (eqb (link_of all i) link) refl e (seek-at a
         let parts = later f in
         (omega arith, (parts.1.0, none_more all link i k t parts.1.1))
 
-seek-nowhere : (all : List ℕ) (link i n : ℕ) → seek all link i n ≡ Nowhere → NoneFrom all link i (i + n)
+seek_nowhere : (all : List ℕ) (link i n : ℕ) → seek all link i n ≡ Nowhere → NoneFrom all link i (i + n)
 unfolding seek
-seek-nowhere all link i zero e = λ j from below m. omega arith
-seek-nowhere all link i (suc n) e = go (eqb (link_of all i) link) refl e (seek-nowhere all link (i + 1) n)
+seek_nowhere all link i zero e = λ j from below m. omega arith
+seek_nowhere all link i (suc n) e = go (eqb (link_of all i) link) refl e (seek_nowhere all link (i + 1) n)
   where
     go : (t : Bool) → eqb (link_of all i) link ≡ t → cond t (At i) (seek all link (i + 1) n) ≡ Nowhere
         → (seek all link (i + 1) n ≡ Nowhere → NoneFrom all link (i + 1) (i + 1 + n)) → NoneFrom all link i (i + suc n)
@@ -57,14 +57,14 @@ found_at all link i e = go (valid link) refl e
   where
     go : (t : Bool) → valid link ≡ t → cond t (seek all link 0 components) Nowhere ≡ At i → (valid link ≡ true) × FirstWith all link i
     go true t f =
-        let parts = seek-at all link i 0 components f in
+        let parts = seek_at all link i 0 components f in
         (t, (omega arith, (parts.1.0, λ j h m. parts.1.1 j (omega arith) h m)))
     go false t f = absurd (let z : ◌≡◌ {A = ℕ} 0 1 = cc in omega arith)
 
 -- Where none is found, a valid link stands in none of the sixteen.
 pub found_nowhere : (all : List ℕ) (link : ℕ) → found all link ≡ Nowhere → valid link ≡ true → NoneWith all link
 unfolding found
-found_nowhere all link e v j h m = seek-nowhere all link 0 components (rw v at e) j (omega arith) (omega arith) m
+found_nowhere all link e v j h m = seek_nowhere all link 0 components (rw v at e) j (omega arith) (omega arith) m
 
 -- And back: the first with a valid link is found.
 pub first_found : (all : List ℕ) (link i : ℕ) → valid link ≡ true → FirstWith all link i → found all link ≡ At i

@@ -4,25 +4,25 @@ use Rattle.words.specs.Words.{if◌then◌else◌}
 use Rattle.places.specs.Places.{size, components, link_of}
 use Rattle.registers.specs.declared.Taken.{Taken}
 use Rattle.registers.specs.declared.Taken.TheVariants.{Apart, Refused}
-use Rattle.registers.specs.Registers.{passwordIn, apart, numberTaken}
+use Rattle.registers.specs.Registers.{password_in, apart, number_taken}
 
 -- 01, Events and time, 1: an image of 256 bytes is taken; any other is refused.
 unfoldable pub taken_of : List ℕ → Taken
-taken_of image = if eqb (length image) size then Apart (passwordIn image) else Refused
+taken_of image = if eqb (length image) size then Apart (password_in image) else Refused
 
 -- The registers once an image is offered: those of the image, or, refused, every byte as it was (decision 54).
-unfoldable pub afterTaking : List ℕ → List ℕ → List ℕ
-afterTaking image all = if eqb (length image) size then apart image else all
+unfoldable pub after_taking : List ℕ → List ℕ → List ℕ
+after_taking image all = if eqb (length image) size then apart image else all
 
 -- What taking an image promises: its answer, and every byte of the registers.
 pub record Took (image before : List ℕ) (answer : Taken) (after : List ℕ) : Type 0 where
   pub answered : answer ≡ taken_of image
-  pub registers : after ≡ afterTaking image before
+  pub registers : after ≡ after_taking image before
 
 -- 01, Answer numbers, heading of the table and row 1: an image is refused if and only if it has another size than 256.
 pub record TakenExactly : Type 0 where
-  pub taken : (image : List ℕ) → (numberTaken (taken_of image) ≡ 0) ↔ (length image ≡ size)
-  pub refused : (image : List ℕ) → (numberTaken (taken_of image) ≡ 1) ↔ (length image ≡ size → ⊥)
+  pub taken : (image : List ℕ) → (number_taken (taken_of image) ≡ 0) ↔ (length image ≡ size)
+  pub refused : (image : List ℕ) → (number_taken (taken_of image) ≡ 1) ↔ (length image ≡ size → ⊥)
 
 -- Component i has this link, and none before it does.
 abbrev pub FirstWith : List ℕ → ℕ → ℕ → Type 0

@@ -3,7 +3,7 @@ use Rattle.std.specs.Prelude.{◌≡◌, Bool, ◌&&◌, List, [], ◌∷◌, �
 use Rattle.words.specs.Words.{if◌then◌else◌}
 use Rattle.vault.specs.Vault.{password}
 use Rattle.vault.specs.declared.Password.{Password}
-use Rattle.places.specs.Places.{size, firstPlace, secondPlace, components, link_of}
+use Rattle.places.specs.Places.{size, first_place, second_place, components, link_of}
 use Rattle.registers.specs.declared.Seen.{Seen}
 use Rattle.registers.specs.declared.Seen.TheVariants.{Hidden, Shown}
 use Rattle.registers.specs.declared.Taken.{Taken}
@@ -12,42 +12,42 @@ use Rattle.registers.specs.declared.Found.{Found}
 use Rattle.registers.specs.declared.Found.TheVariants.{At, Nowhere}
 
 -- 01, Registers, 1: the password of an image.
-unfoldable pub passwordIn : List ℕ → Password
-passwordIn image = password (get_or image firstPlace 0) (get_or image secondPlace 0)
+unfoldable pub password_in : List ℕ → Password
+password_in image = password (get_or image first_place 0) (get_or image second_place 0)
 
 -- The registers of an image without its password: its two places are 0.
 unfoldable pub apart : List ℕ → List ℕ
-apart image = set (set image firstPlace 0) secondPlace 0
+apart image = set (set image first_place 0) second_place 0
 
 -- The 256 bytes with the password put back, for the owner to save.
 unfoldable pub image_of : List ℕ → Password → List ℕ
-image_of all w = set (set all firstPlace w.0) secondPlace w.1
+image_of all w = set (set all first_place w.0) second_place w.1
 
 -- The two dead bytes of the array are 0.
 abbrev pub Dead : List ℕ → Type 0
-Dead all = (get_or all firstPlace 0 ≡ 0) × (get_or all secondPlace 0 ≡ 0)
+Dead all = (get_or all first_place 0 ≡ 0) × (get_or all second_place 0 ≡ 0)
 
 -- 01, Answer numbers, rows 0 and 1: the number of each answer to an image.
-abbrev pub numberTaken : Taken → ℕ
-numberTaken (Apart w) = 0
-numberTaken Refused = 1
+abbrev pub number_taken : Taken → ℕ
+number_taken (Apart w) = 0
+number_taken Refused = 1
 
 -- 01, Commands, 9: what is seen of the password's first byte: 0 where it is hidden.
-unfoldable pub firstSeen : Seen → ℕ
-firstSeen Hidden = 0
-firstSeen (Shown w) = w.0
+unfoldable pub first_seen : Seen → ℕ
+first_seen Hidden = 0
+first_seen (Shown w) = w.0
 
 -- 01, Commands, 9: what is seen of the password's second byte: 0 where it is hidden.
-unfoldable pub secondSeen : Seen → ℕ
-secondSeen Hidden = 0
-secondSeen (Shown w) = w.1
+unfoldable pub second_seen : Seen → ℕ
+second_seen Hidden = 0
+second_seen (Shown w) = w.1
 
 -- What is seen at a place: of the password at its two places, at any other what the array holds there. It goes by the place itself
 -- (01, Slips that look right, 1).
 abbrev pub masked : Seen → ℕ → ℕ → ℕ
 masked seen place held =
-    if eqb place firstPlace then firstSeen seen
-    else if eqb place secondPlace then secondSeen seen
+    if eqb place first_place then first_seen seen
+    else if eqb place second_place then second_seen seen
     else held
 
 -- The array's byte at a place. Past 0xFF there is nothing, which reads as 0 (decision 53).
@@ -55,13 +55,13 @@ abbrev pub held_at : List ℕ → ℕ → ℕ
 held_at all place = if ltb place size then get_or all place 0 else 0
 
 -- The register at a place, as it is seen.
-unfoldable pub readAt : List ℕ → Seen → ℕ → ℕ
-readAt all seen place = masked seen place (held_at all place)
+unfoldable pub read_at : List ℕ → Seen → ℕ → ℕ
+read_at all seen place = masked seen place (held_at all place)
 
 -- n registers from a place on.
 unfoldable pub range_of : List ℕ → Seen → ℕ → ℕ → List ℕ
 range_of all seen place zero = []
-range_of all seen place (suc n) = readAt all seen place ∷ range_of all seen (place + 1) n
+range_of all seen place (suc n) = read_at all seen place ∷ range_of all seen (place + 1) n
 
 -- 01, Registers, 9: a link is neither 0 nor 255.
 unfoldable pub valid : ℕ → Bool

@@ -1,6 +1,7 @@
 // The 256 registers, with the password held apart from them: the bytes at 0x02 and 0x03 are dead.
+#![tactic(auto)]
 ghost use Rattle.std.specs.Prelude.{◌≡◌, ◌+◌, ◌<◌, ◌≤◌, length};
-ghost use Rattle.registers.specs.Registers.{image_of, range_of, held_at, masked, firstSeen, secondSeen, found, numberTaken, valid};
+ghost use Rattle.registers.specs.Registers.{image_of, range_of, held_at, masked, first_seen, second_seen, found, number_taken, valid};
 ghost use Rattle.registers.specs.declared.Seen.{Seen};
 ghost use Rattle.registers.specs.Code.{Took};
 
@@ -8,21 +9,21 @@ use places::{COMPONENTS, FIRST, SECOND, SIZE};
 use vault::Password;
 
 // What taking an image gives: its password, or the refusal 1.
-#[derive(Drop)]
+#[derive(Clone, Copy)]
 pub enum Taken {
     Apart(Password),
     Refused,
 }
 
 // Whether a reader is handed the password.
-#[derive(Drop)]
+#[derive(Clone, Copy)]
 pub enum Seen {
     Hidden,
     Shown(Password),
 }
 
 // The component that a search finds.
-#[derive(Drop)]
+#[derive(Clone, Copy)]
 pub enum Found {
     At(u8),
     Nowhere,
@@ -30,7 +31,7 @@ pub enum Found {
 
 impl Taken {
     pub fn number(self) -> u8
-        ensures { result ≡ numberTaken self }
+        ensures { result ≡ number_taken self }
     {
         match self {
             Taken::Apart(_) => 0,
@@ -139,7 +140,7 @@ fn masked(seen: Seen, place: usize, held: u8) -> u8
 }
 
 fn first_seen(seen: Seen) -> u8
-    ensures { result ≡ firstSeen seen }
+    ensures { result ≡ first_seen seen }
 {
     match seen {
         Seen::Hidden => 0,
@@ -148,7 +149,7 @@ fn first_seen(seen: Seen) -> u8
 }
 
 fn second_seen(seen: Seen) -> u8
-    ensures { result ≡ secondSeen seen }
+    ensures { result ≡ second_seen seen }
 {
     match seen {
         Seen::Hidden => 0,

@@ -10,7 +10,7 @@ use lib.Seq.{take_all, take_at, take-suc-set}
 use Rattle.words.specs.Words.{if◌then◌else◌}
 use Rattle.words.proofs.Laws.{two_ways}
 use Rattle.outbox.specs.Outbox.{placed}
-use Rattle.switch.specs.Switch.{Deed, event, switchOf, arrays}
+use Rattle.switch.specs.Switch.{Deed, event, switch_of, arrays}
 use Rattle.switch.specs.Respond.{respond, Responds}
 use Rattle.answers.specs.declared.Answer.{Answer}
 use Rattle.page.specs.Page.{Page, puts, none}
@@ -33,8 +33,8 @@ lent n buffer =
 
 module _ (deed : Deed) (desk : Desk) (c n l all buffer c' n' l' all' out : List ℕ) (room : ℕ) (answer : Answer) where
   -- As many bytes as were lent are there after the event.
-  pub still-lent : room ≡ min desk.room (length buffer) → Responds deed c n l all (filled (take room buffer)) answer c' n' l' all' out → length out ≡ room
-  still-lent least responds =
+  pub still_lent : room ≡ min desk.room (length buffer) → Responds deed c n l all (filled (take room buffer)) answer c' n' l' all' out → length out ≡ room
+  still_lent least responds =
       ap length responds.bytes ∙ filled_keeps _ (filled (take room buffer)) ∙ rw (length-replicate, length-take) (omega arith)
 
   -- An event: the switch after it, the lent bytes in front of the others, and what is written.
@@ -47,9 +47,9 @@ module _ (deed : Deed) (desk : Desk) (c n l all buffer c' n' l' all' out : List 
       let front : take room buffer ≡ take desk.room buffer = rw least (lent desk.room buffer).0 in
       let behind : drop room buffer ≡ drop desk.room buffer = rw least (lent desk.room buffer).1 in
       let own : Responds deed c n l all (filled (take desk.room buffer)) answer c' n' l' all' out = rw front at responds in
-      let response = respond (switchOf c n l all) (event (length (filled (take desk.room buffer))) deed) in
+      let response = respond (switch_of c n l all) (event (length (filled (take desk.room buffer))) deed) in
       let bytes = placed response.shown.sent (filled (take desk.room buffer)) in
-      let said : take room (out ++ drop room buffer) ≡ bytes = take_at out (drop room buffer) room (still-lent least responds) ∙ own.bytes in
+      let said : take room (out ++ drop room buffer) ≡ bytes = take_at out (drop room buffer) room (still_lent least responds) ∙ own.bytes in
       record {
         after = λ i. scene desk.there (arrays (own.counted i) (own.numbered i) (own.moved i) (own.registers i)) desk.room (own.bytes i ++ behind i);
         written = wrote ∙ ap (λ (t : List ℕ). puts t page) (ap (say answer) said ∙ ap (λ (a : Answer). say a bytes) own.answered);
@@ -82,10 +82,10 @@ pub happens : (e e' : Event) (packet c n l all c' n' l' all' before filled-out o
 happens e e' packet c n l all c' n' l' all' before filled-out out answer same-event Filled-is responds = rw (same-event, ← Filled-is) responds
 
 -- No two outcomes: what a line promises fixes the desk, every byte that is lent, and the page.
-pub one-outcome : (meant : Done) (page page₁ page₂ : Page) (desk₁ desk₂ : Desk) (c₁ n₁ l₁ all₁ buffer₁ c₂ n₂ l₂ all₂ buffer₂ : List ℕ)
+pub one_outcome : (meant : Done) (page page₁ page₂ : Page) (desk₁ desk₂ : Desk) (c₁ n₁ l₁ all₁ buffer₁ c₂ n₂ l₂ all₂ buffer₂ : List ℕ)
     → Plays meant page desk₁ c₁ n₁ l₁ all₁ buffer₁ page₁
     → Plays meant page desk₂ c₂ n₂ l₂ all₂ buffer₂ page₂
     → (desk₁ ≡ desk₂) × ((arrays c₁ n₁ l₁ all₁ ≡ arrays c₂ n₂ l₂ all₂) × ((buffer₁ ≡ buffer₂) × (page₁ ≡ page₂)))
-one-outcome meant page page₁ page₂ desk₁ desk₂ c₁ n₁ l₁ all₁ buffer₁ c₂ n₂ l₂ all₂ buffer₂ p q =
+one_outcome meant page page₁ page₂ desk₁ desk₂ c₁ n₁ l₁ all₁ buffer₁ c₂ n₂ l₂ all₂ buffer₂ p q =
     let e : scene_of desk₁ c₁ n₁ l₁ all₁ buffer₁ ≡ scene_of desk₂ c₂ n₂ l₂ all₂ buffer₂ = p.after ∙ sym q.after in
     (λ i. record { there = (e i).there; room = (e i).room }, (λ i. (e i).arrays, (λ i. (e i).buffer, p.written ∙ sym q.written)))

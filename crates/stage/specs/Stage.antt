@@ -4,7 +4,7 @@ use Rattle.std.specs.Prelude.{ℕ, Bool, false, not, List, ◌++◌, ◌≡◌, 
 use Rattle.words.specs.Words.{if◌then◌else◌}
 use Rattle.model.specs.Model.{room}
 use Rattle.outbox.specs.Outbox.{placed}
-use Rattle.switch.specs.Switch.{Arrays, arrays, switchIn, keptIn, Deed, press, release, tick, receive, restart, event}
+use Rattle.switch.specs.Switch.{Arrays, arrays, switch_in, kept_in, Deed, press, release, tick, receive, restart, event}
 use Rattle.switch.specs.Respond.{respond}
 use Rattle.answers.specs.declared.Answer.{Answer}
 use Rattle.stage.specs.declared.Event.{Event}
@@ -36,8 +36,8 @@ abbrev pub done : Scene → List ℕ → Done
 done after text = record { after = after; text = text }
 
 -- The start of a script: no switch, and a buffer with just the room that an event asks for.
-abbrev pub emptyDesk : Desk
-emptyDesk = record { there = false; room = room }
+abbrev pub empty_desk : Desk
+empty_desk = record { there = false; room = room }
 
 -- Before every event each lent byte is made the same.
 abbrev pub filled : List ℕ → List ℕ
@@ -47,9 +47,9 @@ filled out = replicate (length out) fill
 unfoldable pub happened : (Answer → List ℕ → List ℕ) → Deed → Scene → Done
 happened say deed s =
     let lent = filled (take s.room s.buffer) in
-    let response = respond (switchIn s.arrays) (event (length lent) deed) in
+    let response = respond (switch_in s.arrays) (event (length lent) deed) in
     let bytes = placed response.shown.sent lent in
-    done (scene s.there (keptIn s.arrays response.next) s.room (bytes ++ drop s.room s.buffer)) (say response.shown.answer bytes)
+    done (scene s.there (kept_in s.arrays response.next) s.room (bytes ++ drop s.room s.buffer)) (say response.shown.answer bytes)
 
 -- An event where there is no switch is not one: `none` is written.
 unfoldable pub told : ℕ → Deed → Scene → Done
@@ -62,12 +62,12 @@ pub record Plays (meant : Done) (page : Page) (desk : Desk) (counters numbers pa
   pub written : page' ≡ puts meant.text page
 
 -- The letter of an event, as the code has it.
-abbrev pub letterOf : Event → ℕ
-letterOf (happens.Press contact) = code "p"
-letterOf (happens.Release contact) = code "r"
-letterOf happens.Tick = code "t"
-letterOf (happens.Packet n) = code "k"
-letterOf happens.Restart = code "x"
+abbrev pub letter_of : Event → ℕ
+letter_of (happens.Press contact) = code "p"
+letter_of (happens.Release contact) = code "r"
+letter_of happens.Tick = code "t"
+letter_of (happens.Packet n) = code "k"
+letter_of happens.Restart = code "x"
 
 -- What such an event is to the switch; the bytes that a packet is the front of stand beside it.
 abbrev pub deed_of : Event → List ℕ → Deed

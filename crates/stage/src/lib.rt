@@ -1,10 +1,11 @@
 // The switch on the desk: an event happens to it, and what it answers is written.
+#![tactic(auto)]
 ghost use Rattle.std.specs.Prelude.{◌≡◌, min};
 ghost use Rattle.switch.specs.Switch.{tick};
 ghost use Rattle.switch.specs.Respond.{Responds};
 ghost use Rattle.page.specs.Page.{page_of};
 ghost use Rattle.ledger.specs.Writing.{row};
-ghost use Rattle.stage.specs.Stage.{emptyDesk, scene_of, filled, happened, told, Plays, letterOf, deed_of};
+ghost use Rattle.stage.specs.Stage.{empty_desk, scene_of, filled, happened, told, Plays, letter_of, deed_of};
 
 use answers::Answer;
 use ledger::FILL;
@@ -14,21 +15,21 @@ use panel::BYTES;
 use state::{COUNTERS, NUMBERS};
 
 // Whether there is a switch, and how many bytes of the buffer are lent to it. All that it holds is lent beside the desk.
-#[derive(Drop)]
+#[derive(Clone, Copy)]
 pub struct Desk {
     pub there: bool,
     pub room: usize,
 }
 
 // The desk after a line, and the place behind what is written of it.
-#[derive(Drop)]
+#[derive(Clone, Copy)]
 pub struct Turn {
     pub desk: Desk,
     pub at: usize,
 }
 
 // What happens to a switch. A packet is so many bytes of those that are lent beside it.
-#[derive(Drop)]
+#[derive(Clone, Copy)]
 pub enum Event {
     Press(u8),
     Release(u8),
@@ -40,7 +41,7 @@ pub enum Event {
 impl Desk {
     // Nobody there.
     pub fn empty() -> Desk
-        ensures { result ≡ emptyDesk }
+        ensures { result ≡ empty_desk }
     {
         Desk {
             there: false,
@@ -96,7 +97,7 @@ pub fn tell(
     page: &mut [u8],
     at: usize,
 ) -> Turn
-    ensures { Plays (told (letterOf event) (deed_of event bytes.now) (scene_of desk counters.old numbers.old paddles.old all.old buffer.old)) (page_of page.old at) result.desk counters.new numbers.new paddles.new all.new buffer.new (page_of page.new result.at) }
+    ensures { Plays (told (letter_of event) (deed_of event bytes.now) (scene_of desk counters.old numbers.old paddles.old all.old buffer.old)) (page_of page.old at) result.desk counters.new numbers.new paddles.new all.new buffer.new (page_of page.new result.at) }
 {
     let letter = letter(event);
     if !desk.there {
@@ -142,7 +143,7 @@ fn happen(
 }
 
 fn letter(event: Event) -> u8
-    ensures { result ≡ letterOf event }
+    ensures { result ≡ letter_of event }
 {
     match event {
         Event::Press(_) => b'p',

@@ -10,55 +10,55 @@ use Rattle.dimmer.specs.declared.Motion.TheVariants.{Idle, Fading, Blinking}
 use Rattle.lamp.specs.declared.Colour.{Colour}
 use Rattle.lamp.specs.declared.Lamp.{Lamp}
 use Rattle.acts.specs.declared.Core.{Core}
-use Rattle.state.specs.Kinds.{mode_of, modeNumber, colourFrom, colourNumber, motionOf, kindNumber}
-use Rattle.state.specs.State.{versionIndex, phaseIndex, blinkIndex, flashIndex, saveIndex, leftIndex, periodIndex}
-use Rattle.state.specs.State.{levelIndex, kindIndex, modeIndex, hueIndex, lastIndex, targetIndex, firstIndex, secondIndex}
+use Rattle.state.specs.Kinds.{mode_of, mode_number, colour_from, colour_number, motion_of, kind_number}
+use Rattle.state.specs.State.{version_index, phase_index, blink_index, flash_index, save_index, left_index, period_index}
+use Rattle.state.specs.State.{level_index, kind_index, mode_index, hue_index, last_index, target_index, first_index, second_index}
 
 -- The password.
-unfoldable pub keptPassword : Password → List ℕ → List ℕ
-keptPassword w numbers = set (set numbers firstIndex w.0) secondIndex w.1
+unfoldable pub kept_password : Password → List ℕ → List ℕ
+kept_password w numbers = set (set numbers first_index w.0) second_index w.1
 
 -- The mode.
-unfoldable pub keptMode : Mode → List ℕ → List ℕ
-keptMode mode numbers = kept_at (modeNumber (mode_of (get_or numbers modeIndex 0))) (modeNumber mode) modeIndex numbers
+unfoldable pub kept_mode : Mode → List ℕ → List ℕ
+kept_mode mode numbers = kept_at (mode_number (mode_of (get_or numbers mode_index 0))) (mode_number mode) mode_index numbers
 
 -- The colour of the lamp's signal.
-unfoldable pub keptHue : Colour → List ℕ → List ℕ
-keptHue hue numbers = kept_at (colourNumber (colourFrom (get_or numbers hueIndex 0))) (colourNumber hue) hueIndex numbers
+unfoldable pub kept_hue : Colour → List ℕ → List ℕ
+kept_hue hue numbers = kept_at (colour_number (colour_from (get_or numbers hue_index 0))) (colour_number hue) hue_index numbers
 
 -- The kind of a motion.
-unfoldable pub keptKind : Motion → List ℕ → List ℕ
-keptKind motion numbers = kept_at (kindNumber (motionOf (get_or numbers kindIndex 0) 0 0 0)) (kindNumber motion) kindIndex numbers
+unfoldable pub kept_kind : Motion → List ℕ → List ℕ
+kept_kind motion numbers = kept_at (kind_number (motion_of (get_or numbers kind_index 0) 0 0 0)) (kind_number motion) kind_index numbers
 
 -- The target, of a fade alone.
-unfoldable pub keptTarget : Motion → List ℕ → List ℕ
-keptTarget Idle numbers = numbers
-keptTarget (Fading target period left) numbers = set numbers targetIndex target.0
-keptTarget (Blinking period left) numbers = numbers
+unfoldable pub kept_target : Motion → List ℕ → List ℕ
+kept_target Idle numbers = numbers
+kept_target (Fading target period left) numbers = set numbers target_index target.0
+kept_target (Blinking period left) numbers = numbers
 
 -- The numbers of the dimmer.
-unfoldable pub keptLevels : Dimmer → List ℕ → List ℕ
-keptLevels d numbers = keptKind d.motion (set (keptTarget d.motion (set numbers lastIndex d.last.0)) levelIndex d.level.0)
+unfoldable pub kept_levels : Dimmer → List ℕ → List ℕ
+kept_levels d numbers = kept_kind d.motion (set (kept_target d.motion (set numbers last_index d.last.0)) level_index d.level.0)
 
 -- All numbers.
-unfoldable pub keptNumbers : Core → Password → List ℕ → List ℕ
-keptNumbers c w numbers = keptHue c.lamp.hue (keptLevels c.dimmer (keptMode c.mode (keptPassword w numbers)))
+unfoldable pub kept_numbers : Core → Password → List ℕ → List ℕ
+kept_numbers c w numbers = kept_hue c.lamp.hue (kept_levels c.dimmer (kept_mode c.mode (kept_password w numbers)))
 
 -- The counters of a motion, where one runs.
-unfoldable pub keptCourse : Motion → List ℕ → List ℕ
-keptCourse Idle counters = counters
-keptCourse (Fading target period left) counters = set (set counters periodIndex period) leftIndex left
-keptCourse (Blinking period left) counters = set (set counters periodIndex period) leftIndex left
+unfoldable pub kept_course : Motion → List ℕ → List ℕ
+kept_course Idle counters = counters
+kept_course (Fading target period left) counters = set (set counters period_index period) left_index left
+kept_course (Blinking period left) counters = set (set counters period_index period) left_index left
 
 -- The metronome of the save.
-unfoldable pub keptSave : ℕ → List ℕ → List ℕ
-keptSave save counters = set counters saveIndex save
+unfoldable pub kept_save : ℕ → List ℕ → List ℕ
+kept_save save counters = set counters save_index save
 
 -- The counters of the lamp.
-unfoldable pub keptTimers : Lamp → List ℕ → List ℕ
-keptTimers lamp counters =
-    set (set (set (set counters versionIndex lamp.version) phaseIndex lamp.phase) blinkIndex lamp.blink) flashIndex lamp.flash
+unfoldable pub kept_timers : Lamp → List ℕ → List ℕ
+kept_timers lamp counters =
+    set (set (set (set counters version_index lamp.version) phase_index lamp.phase) blink_index lamp.blink) flash_index lamp.flash
 
 -- All counters.
-unfoldable pub keptCounters : Core → List ℕ → List ℕ
-keptCounters c counters = keptTimers c.lamp (keptSave c.save (keptCourse c.dimmer.motion counters))
+unfoldable pub kept_counters : Core → List ℕ → List ℕ
+kept_counters c counters = kept_timers c.lamp (kept_save c.save (kept_course c.dimmer.motion counters))

@@ -14,35 +14,35 @@ unfoldable pub mode_of : ℕ → Mode
 mode_of number = if eqb number 1 then Setup else if eqb number 2 then Factory else Normal
 
 -- A mode as a number.
-unfoldable pub modeNumber : Mode → ℕ
-modeNumber Normal = 0
-modeNumber Setup = 1
-modeNumber Factory = 2
+unfoldable pub mode_number : Mode → ℕ
+mode_number Normal = 0
+mode_number Setup = 1
+mode_number Factory = 2
 
 -- A number as a colour: 1 red, 2 green, 3 orange; 0 and any other is black.
-unfoldable pub colourFrom : ℕ → Colour
-colourFrom number =
+unfoldable pub colour_from : ℕ → Colour
+colour_from number =
     if eqb number 1 then Red
     else if eqb number 2 then Green
     else if eqb number 3 then Orange
     else Black
 
 -- A colour as a number.
-unfoldable pub colourNumber : Colour → ℕ
-colourNumber Black = 0
-colourNumber Red = 1
-colourNumber Green = 2
-colourNumber Orange = 3
+unfoldable pub colour_number : Colour → ℕ
+colour_number Black = 0
+colour_number Red = 1
+colour_number Green = 2
+colour_number Orange = 3
 
 -- A motion from its kind, 1 fading, 2 blinking, 0 and any other idle, and from its target, period and ticks left.
-unfoldable pub motionOf : ℕ → ℕ → ℕ → ℕ → Motion
-motionOf kind target period left =
+unfoldable pub motion_of : ℕ → ℕ → ℕ → ℕ → Motion
+motion_of kind target period left =
     if eqb kind 1 then Fading (step target) period left
     else if eqb kind 2 then Blinking period left
     else Idle
 
 -- The kind of a motion as a number.
-unfoldable pub kindNumber : Motion → ℕ
-kindNumber Idle = 0
-kindNumber (Fading target period left) = 1
-kindNumber (Blinking period left) = 2
+unfoldable pub kind_number : Motion → ℕ
+kind_number Idle = 0
+kind_number (Fading target period left) = 1
+kind_number (Blinking period left) = 2

@@ -1,10 +1,10 @@
 // The core of a switch and its password in the lent counters and numbers. A number that still stands for the same is left as it
 // is, and of a motion only what it has is written.
 ghost use Rattle.std.specs.Prelude.{◌≡◌, ◌<◌};
-ghost use Rattle.state.specs.State.{numberCount, modeIn, levelIn, saveIn, passwordOf, dimmerOf, lampOf, core_of};
+ghost use Rattle.state.specs.State.{number_count, mode_in, level_in, save_in, password_of, dimmer_of, lamp_of, core_of};
 ghost use Rattle.words.specs.Words.{kept_at};
-ghost use Rattle.state.specs.Keeping.{keptMode, keptHue, keptKind, keptTarget, keptLevels, keptPassword, keptNumbers, keptCourse, keptSave, keptTimers, keptCounters};
-ghost use Rattle.state.specs.Code.{idleIn, leftIn, keptLeft, LampKept, DimmerKept, CoreKept};
+ghost use Rattle.state.specs.Keeping.{kept_mode, kept_hue, kept_kind, kept_target, kept_levels, kept_password, kept_numbers, kept_course, kept_save, kept_timers, kept_counters};
+ghost use Rattle.state.specs.Code.{idle_in, left_in, kept_left, LampKept, DimmerKept, CoreKept};
 
 use crate::kinds::{colour_number, colour_of, kind_number, mode_number, mode_of, motion_of};
 use crate::{COUNTERS, NUMBERS};
@@ -58,47 +58,47 @@ pub fn core_of(counters: &[u16; COUNTERS], numbers: &[u8; NUMBERS]) -> Core
 }
 
 pub fn mode_in(numbers: &[u8; NUMBERS]) -> Mode
-    ensures { result ≡ modeIn numbers.now }
+    ensures { result ≡ mode_in numbers.now }
 {
     mode_of(numbers[MODE])
 }
 
 pub fn level_in(numbers: &[u8; NUMBERS]) -> Step
-    ensures { result ≡ levelIn numbers.now }
+    ensures { result ≡ level_in numbers.now }
 {
     Step(numbers[LEVEL])
 }
 
 // The ticks left before the save.
 pub fn save_in(counters: &[u16; COUNTERS]) -> u16
-    ensures { result ≡ saveIn counters.now }
+    ensures { result ≡ save_in counters.now }
 {
     counters[SAVE]
 }
 
 // What a motion has left to its next step or flip.
 pub fn left_in(counters: &[u16; COUNTERS]) -> u16
-    ensures { result ≡ leftIn counters.now }
+    ensures { result ≡ left_in counters.now }
 {
     counters[LEFT]
 }
 
 // Whether nothing moves the level.
 pub fn idle(numbers: &[u8; NUMBERS]) -> bool
-    ensures { result ≡ idleIn numbers.now }
+    ensures { result ≡ idle_in numbers.now }
 {
     let kind = numbers[KIND];
     kind == 0 || 2 < kind
 }
 
 pub fn password_of(numbers: &[u8; NUMBERS]) -> Password
-    ensures { result ≡ passwordOf numbers.now }
+    ensures { result ≡ password_of numbers.now }
 {
     Password(numbers[FIRST], numbers[SECOND])
 }
 
 pub fn dimmer_of(counters: &[u16; COUNTERS], numbers: &[u8; NUMBERS]) -> Dimmer
-    ensures { result ≡ dimmerOf counters.now numbers.now }
+    ensures { result ≡ dimmer_of counters.now numbers.now }
 {
     Dimmer {
         level: Step(numbers[LEVEL]),
@@ -113,7 +113,7 @@ pub fn dimmer_of(counters: &[u16; COUNTERS], numbers: &[u8; NUMBERS]) -> Dimmer
 }
 
 pub fn lamp_of(counters: &[u16; COUNTERS], numbers: &[u8; NUMBERS]) -> Lamp
-    ensures { result ≡ lampOf counters.now numbers.now }
+    ensures { result ≡ lamp_of counters.now numbers.now }
 {
     Lamp {
         version: counters[VERSION],
@@ -142,14 +142,14 @@ pub fn keep(
 }
 
 pub fn keep_password(password: Password, numbers: &mut [u8; NUMBERS])
-    ensures { numbers.new ≡ keptPassword password numbers.old }
+    ensures { numbers.new ≡ kept_password password numbers.old }
 {
     numbers[FIRST] = password.0;
     numbers[SECOND] = password.1;
 }
 
 pub fn keep_mode(mode: Mode, numbers: &mut [u8; NUMBERS])
-    ensures { numbers.new ≡ keptMode mode numbers.old }
+    ensures { numbers.new ≡ kept_mode mode numbers.old }
 {
     let plain = mode_number(mode_of(numbers[MODE]));
     keep_at(plain, mode_number(mode), MODE, numbers);
@@ -164,7 +164,7 @@ pub fn keep_dimmer(dimmer: Dimmer, counters: &mut [u16; COUNTERS], numbers: &mut
 }
 
 fn keep_course(motion: Motion, counters: &mut [u16; COUNTERS])
-    ensures { counters.new ≡ keptCourse motion counters.old }
+    ensures { counters.new ≡ kept_course motion counters.old }
 {
     match motion {
         Motion::Idle => {}
@@ -181,13 +181,13 @@ fn keep_course(motion: Motion, counters: &mut [u16; COUNTERS])
 
 // All that a tick between two beats of a motion changes.
 pub fn keep_left(left: u16, counters: &mut [u16; COUNTERS])
-    ensures { counters.new ≡ keptLeft left counters.old }
+    ensures { counters.new ≡ kept_left left counters.old }
 {
     counters[LEFT] = left;
 }
 
 fn keep_levels(dimmer: Dimmer, numbers: &mut [u8; NUMBERS])
-    ensures { numbers.new ≡ keptLevels dimmer numbers.old }
+    ensures { numbers.new ≡ kept_levels dimmer numbers.old }
 {
     let motion = dimmer.motion;
     let level = dimmer.level;
@@ -199,7 +199,7 @@ fn keep_levels(dimmer: Dimmer, numbers: &mut [u8; NUMBERS])
 }
 
 fn keep_target(motion: Motion, numbers: &mut [u8; NUMBERS])
-    ensures { numbers.new ≡ keptTarget motion numbers.old }
+    ensures { numbers.new ≡ kept_target motion numbers.old }
 {
     match motion {
         Motion::Idle => {}
@@ -211,14 +211,14 @@ fn keep_target(motion: Motion, numbers: &mut [u8; NUMBERS])
 }
 
 fn keep_kind(motion: Motion, numbers: &mut [u8; NUMBERS])
-    ensures { numbers.new ≡ keptKind motion numbers.old }
+    ensures { numbers.new ≡ kept_kind motion numbers.old }
 {
     let plain = kind_number(motion_of(numbers[KIND], 0, 0, 0));
     keep_at(plain, kind_number(motion), KIND, numbers);
 }
 
 pub fn keep_save(save: u16, counters: &mut [u16; COUNTERS])
-    ensures { counters.new ≡ keptSave save counters.old }
+    ensures { counters.new ≡ kept_save save counters.old }
 {
     counters[SAVE] = save;
 }
@@ -232,7 +232,7 @@ pub fn keep_lamp(lamp: Lamp, counters: &mut [u16; COUNTERS], numbers: &mut [u8; 
 }
 
 pub fn keep_timers(lamp: Lamp, counters: &mut [u16; COUNTERS])
-    ensures { counters.new ≡ keptTimers lamp counters.old }
+    ensures { counters.new ≡ kept_timers lamp counters.old }
 {
     counters[VERSION] = lamp.version;
     counters[PHASE] = lamp.phase;
@@ -241,7 +241,7 @@ pub fn keep_timers(lamp: Lamp, counters: &mut [u16; COUNTERS])
 }
 
 fn keep_hue(hue: Colour, numbers: &mut [u8; NUMBERS])
-    ensures { numbers.new ≡ keptHue hue numbers.old }
+    ensures { numbers.new ≡ kept_hue hue numbers.old }
 {
     let plain = colour_number(colour_of(numbers[HUE]));
     keep_at(plain, colour_number(hue), HUE, numbers);
@@ -249,7 +249,7 @@ fn keep_hue(hue: Colour, numbers: &mut [u8; NUMBERS])
 
 // `plain`: the plain number of what stands there.
 fn keep_at(plain: u8, new: u8, place: usize, numbers: &mut [u8; NUMBERS])
-    requires { place < numberCount }
+    requires { place < number_count }
     ensures { numbers.new ≡ kept_at plain new place numbers.old }
 {
     if plain != new {

@@ -1,6 +1,6 @@
 // Modes, colours and motions as numbers, and back.
 ghost use Rattle.std.specs.Prelude.{◌≡◌};
-ghost use Rattle.state.specs.Kinds.{mode_of, modeNumber, colourFrom, colourNumber, motionOf, kindNumber};
+ghost use Rattle.state.specs.Kinds.{mode_of, mode_number, colour_from, colour_number, motion_of, kind_number};
 
 use dimmer::Motion;
 use lamp::Colour;
@@ -19,7 +19,7 @@ pub fn mode_of(number: u8) -> Mode
 }
 
 pub fn mode_number(mode: Mode) -> u8
-    ensures { result ≡ modeNumber mode }
+    ensures { result ≡ mode_number mode }
 {
     match mode {
         Mode::Normal => 0,
@@ -29,7 +29,7 @@ pub fn mode_number(mode: Mode) -> u8
 }
 
 pub fn colour_of(number: u8) -> Colour
-    ensures { result ≡ colourFrom number }
+    ensures { result ≡ colour_from number }
 {
     match number {
         1 => Colour::Red,
@@ -40,7 +40,7 @@ pub fn colour_of(number: u8) -> Colour
 }
 
 pub fn colour_number(colour: Colour) -> u8
-    ensures { result ≡ colourNumber colour }
+    ensures { result ≡ colour_number colour }
 {
     match colour {
         Colour::Black => 0,
@@ -51,7 +51,7 @@ pub fn colour_number(colour: Colour) -> u8
 }
 
 pub fn motion_of(kind: u8, target: u8, period: u16, left: u16) -> Motion
-    ensures { result ≡ motionOf kind target period left }
+    ensures { result ≡ motion_of kind target period left }
 {
     match kind {
         1 => Motion::Fading {
@@ -65,7 +65,7 @@ pub fn motion_of(kind: u8, target: u8, period: u16, left: u16) -> Motion
 }
 
 pub fn kind_number(motion: Motion) -> u8
-    ensures { result ≡ kindNumber motion }
+    ensures { result ≡ kind_number motion }
 {
     match motion {
         Motion::Idle => 0,

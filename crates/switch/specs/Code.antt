@@ -13,5 +13,5 @@ abbrev pub told : ℕ → List (List ℕ) → Plain → Password → Answered Pl
 told number sent p w = record { shown = shown number sent p; next = switch p w }
 
 -- The signal of an edge or a tick, by how many packets it sent.
-unfoldable pub signalledOn : ℕ → Core → Core
-signalledOn count c = if count == 0 then c else signalled Red c
+unfoldable pub signalled_on : ℕ → Core → Core
+signalled_on count c = if count == 0 then c else signalled Red c

@@ -2,14 +2,14 @@
 use Rattle.core.specs.Prelude.{ℕ, List}
 use Rattle.lamp.specs.Lamp.{colour, output}
 use Rattle.paddle.specs.declared.Paddle.{Paddle}
-use Rattle.places.specs.Places.{digitIn, lightIn}
+use Rattle.places.specs.Places.{digit_in, light_in}
 use Rattle.vault.specs.Job.{Switch, switch}
 use Rattle.acts.specs.declared.Core.{Core}
 use Rattle.outbox.specs.Outbox.{tally}
 use Rattle.outbox.specs.declared.Sent.{Sent}
-use Rattle.state.specs.State.{core_of, passwordOf}
-use Rattle.state.specs.Keeping.{keptCounters, keptNumbers}
-use Rattle.panel.specs.Panel.{keptPaddles, paddlesOf}
+use Rattle.state.specs.State.{core_of, password_of}
+use Rattle.state.specs.Keeping.{kept_counters, kept_numbers}
+use Rattle.panel.specs.Panel.{kept_paddles, paddles_of}
 use Rattle.answers.specs.declared.Answer.{Answer}
 
 -- All that a switch holds but its password: the registers, the core, and the paddles by their number.
@@ -22,8 +22,8 @@ abbrev pub plain : List ℕ → Core → List Paddle → Plain
 plain registers core paddles = record { registers = registers; core = core; paddles = paddles }
 
 -- The switch that a caller keeps in counters, numbers, the paddles' bytes and the registers.
-abbrev pub switchOf : List ℕ → List ℕ → List ℕ → List ℕ → Switch Plain
-switchOf counters numbers paddles all = switch (plain all (core_of counters numbers) (paddlesOf paddles)) (passwordOf numbers)
+abbrev pub switch_of : List ℕ → List ℕ → List ℕ → List ℕ → Switch Plain
+switch_of counters numbers paddles all = switch (plain all (core_of counters numbers) (paddles_of paddles)) (password_of numbers)
 
 -- The four arrays in which a caller keeps a switch.
 pub record Arrays : Type 0 where
@@ -36,13 +36,13 @@ abbrev pub arrays : List ℕ → List ℕ → List ℕ → List ℕ → Arrays
 arrays counters numbers paddles registers = record { counters = counters; numbers = numbers; paddles = paddles; registers = registers }
 
 -- The switch that they stand for.
-abbrev pub switchIn : Arrays → Switch Plain
-switchIn a = switchOf a.counters a.numbers a.paddles a.registers
+abbrev pub switch_in : Arrays → Switch Plain
+switch_in a = switch_of a.counters a.numbers a.paddles a.registers
 
 -- A switch kept in them, whatever they held.
-abbrev pub keptIn : Arrays → Switch Plain → Arrays
-keptIn a s =
-    arrays (keptCounters s.plain.core a.counters) (keptNumbers s.plain.core s.password a.numbers) (keptPaddles s.plain.paddles a.paddles) s.plain.registers
+abbrev pub kept_in : Arrays → Switch Plain → Arrays
+kept_in a s =
+    arrays (kept_counters s.plain.core a.counters) (kept_numbers s.plain.core s.password a.numbers) (kept_paddles s.plain.paddles a.paddles) s.plain.registers
 
 -- 01, Events and time, 2: the five kinds of event. A press or release names its contact, a receive has the packet's bytes.
 pub data Deed : Type 0 where
@@ -61,21 +61,21 @@ abbrev pub event : ℕ → Deed → Event
 event room deed = record { room = room; deed = deed }
 
 -- 01, Events and time, 7: what an answer is made of. Level, output, lamp and mode are those of the core.
-unfoldable pub answerWith : ℕ → Sent → List ℕ → Core → Answer
-answerWith number sent all c =
+unfoldable pub answer_with : ℕ → Sent → List ℕ → Core → Answer
+answer_with number sent all c =
     let level = c.dimmer.level in
     record {
       number = number;
       sent = sent;
       level = level;
       output = output c.lamp level;
-      colour = colour c.lamp c.mode (digitIn all) (lightIn all) level;
+      colour = colour c.lamp c.mode (digit_in all) (light_in all) level;
       mode = c.mode;
     }
 
 -- The answer of a state, for the packets sent.
 unfoldable pub answer_of : ℕ → List (List ℕ) → Plain → Answer
-answer_of number sent p = answerWith number (tally sent) p.registers p.core
+answer_of number sent p = answer_with number (tally sent) p.registers p.core
 
 -- All that anyone sees of an event: the answer, and the packets sent.
 pub record Shown : Type 0 where

@@ -2,9 +2,10 @@
 // the five events are the crates above: wakes, edges, ticks, hears. All that a switch holds is lent to each of them, the
 // registers and the state; an event reads the parts it needs and keeps those it changes. What an event cannot change is lent to be
 // read alone.
+#![tactic(auto)]
 ghost use Rattle.core.specs.Prelude.{◌≡◌};
 ghost use Rattle.state.specs.State.{core_of};
-ghost use Rattle.switch.specs.Switch.{answerWith};
+ghost use Rattle.switch.specs.Switch.{answer_with};
 
 use acts::Core;
 use answers::Answer;
@@ -20,14 +21,14 @@ pub fn shown(
     numbers: &[u8; NUMBERS],
     all: &[u8; 256],
 ) -> Answer
-    ensures { result ≡ answerWith number sent all.now (core_of counters.now numbers.now) }
+    ensures { result ≡ answer_with number sent all.now (core_of counters.now numbers.now) }
 {
     show(number, sent, core_of(counters, numbers), all)
 }
 
 // What is shown of a switch with this core.
 pub fn show(number: u8, sent: Sent, core: Core, all: &[u8; 256]) -> Answer
-    ensures { result ≡ answerWith number sent all.now core }
+    ensures { result ≡ answer_with number sent all.now core }
 {
     let mode = core.mode;
     let lamp = core.lamp;

@@ -1,9 +1,10 @@
 // One tick, 1/240 second.
+#![tactic(auto)]
 ghost use Rattle.core.specs.Prelude.{◌≡◌, length};
-ghost use Rattle.outbox.specs.Code.{packetsIn};
+ghost use Rattle.outbox.specs.Code.{packets_in};
 ghost use Rattle.switch.specs.Switch.{tick};
 ghost use Rattle.switch.specs.Respond.{Responds};
-ghost use Rattle.switch.specs.Code.{signalledOn};
+ghost use Rattle.switch.specs.Code.{signalled_on};
 ghost use Rattle.ticks.specs.Code.{Finishes, Ticks, Turns};
 
 use acts::Core;
@@ -108,7 +109,7 @@ fn finish(
     all: &[u8; 256],
     out: &mut [u8],
 ) -> Answer
-    ensures { Finishes core password (packetsIn outbox) counters.old numbers.old all.now out.old result counters.new numbers.new out.new }
+    ensures { Finishes core password (packets_in outbox) counters.old numbers.old all.now out.old result counters.new numbers.new out.new }
 {
     let sent = outbox.lay(out);
     let next = signalled_on(core, sent.count);
@@ -118,7 +119,7 @@ fn finish(
 
 // A tick that sends begins the red signal, and no other.
 fn signalled_on(core: Core, count: u8) -> Core
-    ensures { result ≡ signalledOn count core }
+    ensures { result ≡ signalled_on count core }
 {
     if count == 0 {
         return core;

@@ -19,9 +19,9 @@ unfoldable pub less_by : ℕ → ℕ → ℕ
 less_by n left = left - n
 
 -- A metronome after n ticks, in closed form.
-unfoldable pub metronomeBy : ℕ → ℕ → ℕ → ℕ
-metronomeBy n period left = if ltb left n then less period - (n - left - 1) % max 1 period else left - n
+unfoldable pub metronome_by : ℕ → ℕ → ℕ → ℕ
+metronome_by n period left = if ltb left n then less period - (n - left - 1) % max 1 period else left - n
 
 -- How often a metronome beats in n ticks, in closed form.
-unfoldable pub beatsBy : ℕ → ℕ → ℕ → ℕ
-beatsBy n period left = if ltb left n then (n - left - 1) / max 1 period + 1 else 0
+unfoldable pub beats_by : ℕ → ℕ → ℕ → ℕ
+beats_by n period left = if ltb left n then (n - left - 1) / max 1 period + 1 else 0

@@ -1,9 +1,10 @@
 // What the paddles' gestures do within one event: each acts on what the one before it has left, and notes what it sends.
+#![tactic(auto)]
 ghost use Rattle.std.specs.Prelude.{[]};
 ghost use Rattle.vault.specs.Job.{nothing};
-ghost use Rattle.outbox.specs.Code.{packetsIn};
+ghost use Rattle.outbox.specs.Code.{packets_in};
 ghost use Rattle.turns.specs.Turns.{moment};
-ghost use Rattle.turns.specs.Code.{turnsBy, Stands, TakesTurn, Turned};
+ghost use Rattle.turns.specs.Code.{turns_by, Stands, TakesTurn, Turned};
 
 use acts::Core;
 use model::PADDLES;
@@ -13,7 +14,7 @@ use post::Note;
 use vault::Password;
 
 // What a gesture leaves: the core and the password after it, and the note of what it sends.
-#[derive(Drop)]
+#[derive(Clone, Copy)]
 struct After {
     core: Core,
     password: Password,
@@ -21,7 +22,7 @@ struct After {
 }
 
 // What the gestures so far leave, with all that they send.
-#[derive(Drop)]
+#[derive(Clone, Copy)]
 pub struct AfterAll {
     pub core: Core,
     pub password: Password,
@@ -35,7 +36,7 @@ pub fn turns(
     gestures: [Gesture; PADDLES],
     all: &mut [u8; 256],
 ) -> AfterAll
-    ensures { Stands (turnsBy 0 gestures (moment all.old core [] nothing)) password result.core all.new (packetsIn result.outbox) result.password }
+    ensures { Stands (turns_by 0 gestures (moment all.old core [] nothing)) password result.core all.new (packets_in result.outbox) result.password }
 {
     let mut next = AfterAll {
         core,

@@ -22,5 +22,5 @@ unfoldable pub step_of : Percent → Step
 step_of p = step (2 * min 100 p.0)
 
 -- 01, Levels and fades, 1: half the steps, and half a percent drops. A step above 200 counts as 200 (decision 40).
-unfoldable pub percentOf : Step → Percent
-percentOf s = percent (min 200 s.0 / 2)
+unfoldable pub percent_of : Step → Percent
+percent_of s = percent (min 200 s.0 / 2)

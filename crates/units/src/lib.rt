@@ -1,13 +1,14 @@
 // A level on its two scales, steps and percents. They are two types, and a conversion leads from each to the other.
+#![tactic(auto)]
 ghost use Rattle.std.specs.Prelude.{◌≡◌};
-ghost use Rattle.units.specs.Units.{step_of, percentOf};
+ghost use Rattle.units.specs.Units.{step_of, percent_of};
 
 // A level in steps, 0 to 200.
-#[derive(Drop)]
+#[derive(Clone, Copy)]
 pub struct Step(pub u8);
 
 // A level in percents, 0 to 100.
-#[derive(Drop)]
+#[derive(Clone, Copy)]
 pub struct Percent(pub u8);
 
 impl Percent {
@@ -28,7 +29,7 @@ impl Step {
     pub const OFF: Step = Step(0);
 
     pub fn percent(self) -> Percent
-        ensures { result ≡ percentOf self }
+        ensures { result ≡ percent_of self }
     {
         let steps = self.0;
         if 200 < steps {

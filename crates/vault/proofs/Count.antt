@@ -11,32 +11,32 @@ use Rattle.words.proofs.Laws.{both, cases, neither}
 use Rattle.vault.specs.Guesses.{NoRepeats, Untried, all, among, distinct, row, without}
 use Rattle.vault.specs.Vault.{matches, password}
 use Rattle.vault.specs.declared.Password.{Password}
-use Rattle.vault.proofs.Laws.{matches-equal, matches-turned}
+use Rattle.vault.proofs.Laws.{matches_equal, matches_turned}
 
 -- ---- tried or not
 
 -- A password is in two lists joined if it is in one of them.
-pub among-append : (w : Password) (xs ys : List Password) → among w (xs ++ ys) ≡ (among w xs || among w ys)
+pub among_append : (w : Password) (xs ys : List Password) → among w (xs ++ ys) ≡ (among w xs || among w ys)
 unfolding among
-among-append w [] ys = refl
-among-append w (x ∷ xs) ys = ap (λ b. matches w x || b) (among-append w xs ys) ∙ grouped (matches w x)
+among_append w [] ys = refl
+among_append w (x ∷ xs) ys = ap (λ b. matches w x || b) (among_append w xs ys) ∙ grouped (matches w x)
   where
     grouped : (a : Bool) → (a || (among w xs || among w ys)) ≡ ((a || among w xs) || among w ys)
     grouped true = refl
     grouped false = refl
 
 -- Two passwords that match are in the same lists.
-same-among : (v w : Password) (ws : List Password) → matches v w ≡ true → among v ws ≡ among w ws
-same-among v w ws h = ap (λ x. among x ws) (matches-equal v w h)
+same_among : (v w : Password) (ws : List Password) → matches v w ≡ true → among v ws ≡ among w ws
+same_among v w ws h = ap (λ x. among x ws) (matches_equal v w h)
 
 -- A password that is left was not tried.
-pub left-untried : (gs ws : List Password) (w : Password) → among w (without gs ws) ≡ true → Untried w gs
+pub left_untried : (gs ws : List Password) (w : Password) → among w (without gs ws) ≡ true → Untried w gs
 unfolding among without
-left-untried gs [] w h = absurd (false≢true h)
-left-untried gs (x ∷ ws) w h = go (among x gs) refl (left-untried gs ws w) h
+left_untried gs [] w h = absurd (false≢true h)
+left_untried gs (x ∷ ws) w h = go (among x gs) refl (left_untried gs ws w) h
   where
     found : (b : Bool) → matches w x ≡ b → among x gs ≡ false → (among w (without gs ws) ≡ true → Untried w gs) → b || among w (without gs ws) ≡ true → Untried w gs
-    found true m e rest k = same-among w x gs m ∙ e
+    found true m e rest k = same_among w x gs m ∙ e
     found false m e rest k = rest k
 
     go : (b : Bool) → among x gs ≡ b → (among w (without gs ws) ≡ true → Untried w gs) → among w (cond b (without gs ws) (x ∷ without gs ws)) ≡ true → Untried w gs
@@ -53,10 +53,10 @@ fewer gs (x ∷ ws) w h =
     both (λ l. Untried w l) (among x gs) rest (ap (λ b. b || among w (without gs ws)) parts.0 ∙ rest)
 
 -- What is left of a list without repeats has none.
-pub left-once : (gs ws : List Password) → NoRepeats ws → NoRepeats (without gs ws)
+pub left_once : (gs ws : List Password) → NoRepeats ws → NoRepeats (without gs ws)
 unfolding without
-left-once gs [] h = tt
-left-once gs (x ∷ ws) h = both NoRepeats (among x gs) (left-once gs ws h.1) (fewer gs ws x h.0, left-once gs ws h.1)
+left_once gs [] h = tt
+left_once gs (x ∷ ws) h = both NoRepeats (among x gs) (left_once gs ws h.1) (fewer gs ws x h.0, left_once gs ws h.1)
 
 -- ---- how many are left
 
@@ -65,28 +65,28 @@ again : (w g : Password) (gs : List Password) → among g gs ≡ true → (match
 again w g gs h = go (matches w g) refl
   where
     go : (b : Bool) → matches w g ≡ b → (b || among w gs) ≡ among w gs
-    go true m = sym (same-among w g gs m ∙ h)
+    go true m = sym (same_among w g gs m ∙ h)
     go false m = refl
 
 -- A guess made before takes nothing more away.
-made-before : (g : Password) (gs ws : List Password) → among g gs ≡ true → without (g ∷ gs) ws ≡ without gs ws
+made_before : (g : Password) (gs ws : List Password) → among g gs ≡ true → without (g ∷ gs) ws ≡ without gs ws
 unfolding among without
-made-before g gs [] h = refl
-made-before g gs (w ∷ ws) h = ap₂ (λ (b : Bool) (l : List Password). cond b l (w ∷ l)) (again w g gs h) (made-before g gs ws h)
+made_before g gs [] h = refl
+made_before g gs (w ∷ ws) h = ap₂ (λ (b : Bool) (l : List Password). cond b l (w ∷ l)) (again w g gs h) (made_before g gs ws h)
 
 -- The different guesses are the guesses,
-pub among-distinct : (w : Password) (gs : List Password) → among w (distinct gs) ≡ among w gs
+pub among_distinct : (w : Password) (gs : List Password) → among w (distinct gs) ≡ among w gs
 unfolding among distinct
-among-distinct w [] = refl
-among-distinct w (g ∷ gs) =
-    let rest = among-distinct w gs in
+among_distinct w [] = refl
+among_distinct w (g ∷ gs) =
+    let rest = among_distinct w gs in
     cases (λ l. among w l ≡ (matches w g || among w gs)) (among g gs) (λ e. rest ∙ sym (again w g gs e)) (λ e. ap (λ b. matches w g || b) rest)
 
 -- and none stands twice among them.
-pub distinct-once : (gs : List Password) → NoRepeats (distinct gs)
+pub distinct_once : (gs : List Password) → NoRepeats (distinct gs)
 unfolding distinct
-distinct-once [] = tt
-distinct-once (g ∷ gs) = cases NoRepeats (among g gs) (λ e. distinct-once gs) (λ e. (among-distinct g gs ∙ e, distinct-once gs))
+distinct_once [] = tt
+distinct_once (g ∷ gs) = cases NoRepeats (among g gs) (λ e. distinct_once gs) (λ e. (among_distinct g gs ∙ e, distinct_once gs))
 
 -- A guess that is not in the list takes nothing away from it.
 not_there : (g : Password) (gs ws : List Password) → Untried g ws → without (g ∷ gs) ws ≡ without gs ws
@@ -94,7 +94,7 @@ unfolding among without
 not_there g gs [] h = refl
 not_there g gs (w ∷ ws) h =
     let parts = neither (matches g w) (among g ws) h in
-    ap₂ (λ (b : Bool) (l : List Password). cond b l (w ∷ l)) (ap (λ b. b || among w gs) (matches-turned w g ∙ parts.0)) (not_there g gs ws parts.1)
+    ap₂ (λ (b : Bool) (l : List Password). cond b l (w ∷ l)) (ap (λ b. b || among w gs) (matches_turned w g ∙ parts.0)) (not_there g gs ws parts.1)
 
 -- One more guess takes at most one password away.
 one_fewer : (g : Password) (gs ws : List Password) → NoRepeats ws → length (without gs ws) ≤ suc (length (without (g ∷ gs) ws))
@@ -115,7 +115,7 @@ one_fewer g gs (w ∷ ws) h = go (matches w g) refl (one_fewer g gs ws h.1)
     go : (b : Bool) → matches w g ≡ b → length first ≤ suc (length second)
         → length (cond (among w gs) first (w ∷ first)) ≤ suc (length (cond (b || among w gs) second (w ∷ second)))
     go true m rest =
-        let same : length second ≡ length first = ap length (not_there g gs ws (sym (same-among w g ws m) ∙ h.0)) in
+        let same : length second ≡ length first = ap length (not_there g gs ws (sym (same_among w g ws m) ∙ h.0)) in
         let kept : suc (length first) ≤ suc (length second) = omega arith in
         both (λ (l : List Password). length l ≤ suc (length second)) (among w gs) rest kept
     go false m rest = alike (among w gs) rest
@@ -127,14 +127,14 @@ none_made [] = refl
 none_made (w ∷ ws) = ap {B = List Password} (λ l. w ∷ l) (none_made ws)
 
 -- What is left and the different guesses are together at least the whole.
-pub left-and-tried : (gs ws : List Password) → NoRepeats ws → length ws ≤ length (without gs ws) + length (distinct gs)
+pub left_and_tried : (gs ws : List Password) → NoRepeats ws → length ws ≤ length (without gs ws) + length (distinct gs)
 unfolding distinct
-left-and-tried [] ws h = let same : length (without [] ws) ≡ length ws = ap length (none_made ws) in omega arith
-left-and-tried (g ∷ gs) ws h = go (among g gs) refl (left-and-tried gs ws h)
+left_and_tried [] ws h = let same : length (without [] ws) ≡ length ws = ap length (none_made ws) in omega arith
+left_and_tried (g ∷ gs) ws h = go (among g gs) refl (left_and_tried gs ws h)
   where
     go : (b : Bool) → among g gs ≡ b → length ws ≤ length (without gs ws) + length (distinct gs)
         → length ws ≤ length (without (g ∷ gs) ws) + length (cond b (distinct gs) (g ∷ distinct gs))
-    go true e rest = let same : length (without (g ∷ gs) ws) ≡ length (without gs ws) = ap length (made-before g gs ws e) in omega arith
+    go true e rest = let same : length (without (g ∷ gs) ws) ≡ length (without gs ws) = ap length (made_before g gs ws e) in omega arith
     go false e rest = let less : length (without gs ws) ≤ suc (length (without (g ∷ gs) ws)) = one_fewer g gs ws h in omega arith
 
 -- ---- all passwords
@@ -155,21 +155,21 @@ none_below true x = sym (le-ltb x 0 zero-le)
 none_below false x = refl
 
 -- The passwords of a row are those of its first byte whose second is below the count.
-among-row : (w : Password) (first m : ℕ) → among w (row first m) ≡ (eqb w.0 first && ltb w.1 m)
+among_row : (w : Password) (first m : ℕ) → among w (row first m) ≡ (eqb w.0 first && ltb w.1 m)
 unfolding among row matches
-among-row w first zero = none_below (eqb w.0 first) w.1
-among-row w first (suc m) = ap (λ b. matches w (password first m) || b) (among-row w first m) ∙ go (eqb w.0 first)
+among_row w first zero = none_below (eqb w.0 first) w.1
+among_row w first (suc m) = ap (λ b. matches w (password first m) || b) (among_row w first m) ∙ go (eqb w.0 first)
   where
     go : (a : Bool) → ((a && eqb w.1 m) || (a && ltb w.1 m)) ≡ (a && ltb w.1 (suc m))
     go true = below_next w.1 m
     go false = refl
 
 -- Every password of two bytes is one of `all 256 256`, and nothing else is.
-pub among-all : (w : Password) (n m : ℕ) → among w (all n m) ≡ (ltb w.0 n && ltb w.1 m)
+pub among_all : (w : Password) (n m : ℕ) → among w (all n m) ≡ (ltb w.0 n && ltb w.1 m)
 unfolding all among
-among-all w zero m = ap (λ b. b && ltb w.1 m) (sym (le-ltb w.0 0 zero-le))
-among-all w (suc n) m =
-    among-append w (row n m) (all n m) ∙ ap₂ (λ a b. a || b) (among-row w n m) (among-all w n m)
+among_all w zero m = ap (λ b. b && ltb w.1 m) (sym (le-ltb w.0 0 zero-le))
+among_all w (suc n) m =
+    among_append w (row n m) (all n m) ∙ ap₂ (λ a b. a || b) (among_row w n m) (among_all w n m)
     ∙ shared (eqb w.0 n) (ltb w.0 n) (ltb w.1 m) ∙ ap (λ b. b && ltb w.1 m) (below_next w.0 n)
   where
     shared : (a b c : Bool) → ((a && c) || (b && c)) ≡ ((a || b) && c)
@@ -180,12 +180,12 @@ among-all w (suc n) m =
     shared false b c = refl
 
 -- A row put before passwords of other first bytes brings no repeat.
-row-once : (first m : ℕ) (rest : List Password) → ((second : ℕ) → Untried (password first second) rest) → NoRepeats rest → NoRepeats (row first m ++ rest)
+row_once : (first m : ℕ) (rest : List Password) → ((second : ℕ) → Untried (password first second) rest) → NoRepeats rest → NoRepeats (row first m ++ rest)
 unfolding row
-row-once first zero rest fresh once = once
-row-once first (suc m) rest fresh once = (
-  among-append (password first m) (row first m) rest ∙ ap₂ (λ a b. a || b) (among-row (password first m) first m ∙ past (eqb first first)) (fresh m),
-  row-once first m rest fresh once,
+row_once first zero rest fresh once = once
+row_once first (suc m) rest fresh once = (
+  among_append (password first m) (row first m) rest ∙ ap₂ (λ a b. a || b) (among_row (password first m) first m ∙ past (eqb first first)) (fresh m),
+  row_once first m rest fresh once,
 )
   where
     past : (b : Bool) → (b && ltb m m) ≡ false
@@ -197,16 +197,16 @@ pub all_once : (n m : ℕ) → NoRepeats (all n m)
 unfolding all
 all_once zero m = tt
 all_once (suc n) m =
-    row-once n m (all n m) (λ second. among-all (password n second) n m ∙ ap (λ b. b && ltb second m) (le-ltb n n (omega arith))) (all_once n m)
+    row_once n m (all n m) (λ second. among_all (password n second) n m ∙ ap (λ b. b && ltb second m) (le-ltb n n (omega arith))) (all_once n m)
 
 -- A row has as many passwords as its count.
-row-length : (first m : ℕ) → length (row first m) ≡ m
+row_length : (first m : ℕ) → length (row first m) ≡ m
 unfolding row
-row-length first zero = refl
-row-length first (suc m) = ap suc (row-length first m)
+row_length first zero = refl
+row_length first (suc m) = ap suc (row_length first m)
 
 -- There are n times m of them.
-pub all-length : (n m : ℕ) → length (all n m) ≡ n * m
+pub all_length : (n m : ℕ) → length (all n m) ≡ n * m
 unfolding all
-all-length zero m = omega arith
-all-length (suc n) m = omega (arith, length-append (row n m) (all n m), row-length n m, all-length n m)
+all_length zero m = omega arith
+all_length (suc n) m = omega (arith, length-append (row n m) (all n m), row_length n m, all_length n m)

@@ -3,15 +3,15 @@ use mathlib.Core.Bool.{true}
 use mathlib.Core.Path.{◌≡◌, refl}
 use Prim.Native.Nat.{ℕ}
 use Rattle.vault.specs.Job.{Job, change, compare, done, nothing, outcome, put, reveal, switch}
-use Rattle.vault.specs.Product.{Product, responseOf}
+use Rattle.vault.specs.Product.{Product, response_of}
 use Rattle.vault.specs.Promises.{KeepsItsPassword}
-use Rattle.vault.specs.Vault.{inSetup}
+use Rattle.vault.specs.Vault.{in_setup}
 use Rattle.vault.specs.declared.Mode.{Mode}
 use Rattle.vault.specs.declared.Mode.TheVariants.{Normal, Setup, Factory}
 use Rattle.vault.specs.declared.Password.{Password}
-use Rattle.vault.proofs.Laws.{matches-itself}
-use Rattle.vault.proofs.Secrecy.{keeps-its-password}
-use Rattle.vault.proofs.Step.{right-guess-opens}
+use Rattle.vault.proofs.Laws.{matches_itself}
+use Rattle.vault.proofs.Secrecy.{keeps_its_password}
+use Rattle.vault.proofs.Step.{right_guess_opens}
 use Rattle.vault.specs.Code.{Careful}
 
 data Ask : Type 0 where
@@ -29,19 +29,19 @@ asked m reset = done (outcome 0 Factory) (change (put 0x12) (put 0x34))
 abbrev toy : Product
 toy = record { Plain = Mode; Event = Ask; Shown = ℕ; mode = λ m. m; job = asked }
 
-toy-careful : Careful toy
-unfolding asked inSetup
-toy-careful m (try guess) = refl
-toy-careful Normal look = λ _. tt
-toy-careful Setup look = refl
-toy-careful Factory look = λ _. tt
-toy-careful m reset = λ _. tt
+toy_careful : Careful toy
+unfolding asked in_setup
+toy_careful m (try guess) = refl
+toy_careful Normal look = λ _. tt
+toy_careful Setup look = refl
+toy_careful Factory look = λ _. tt
+toy_careful m reset = λ _. tt
 
 -- Its password is kept.
-toy-keeps : KeepsItsPassword toy
-toy-keeps = keeps-its-password toy toy-careful
+toy_keeps : KeepsItsPassword toy
+toy_keeps = keeps_its_password toy toy_careful
 
 -- The right guess opens it.
-toy-opens : (w : Password) → inSetup (responseOf toy (switch Normal w) (try w)).next.plain ≡ true
+toy_opens : (w : Password) → in_setup (response_of toy (switch Normal w) (try w)).next.plain ≡ true
 unfolding asked
-toy-opens w = right-guess-opens toy toy-careful (switch Normal w) (try w) w (outcome 0 Setup) (outcome 14 Normal) refl (matches-itself w)
+toy_opens w = right_guess_opens toy toy_careful (switch Normal w) (try w) w (outcome 0 Setup) (outcome 14 Normal) refl (matches_itself w)

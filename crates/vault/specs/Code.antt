@@ -1,6 +1,6 @@
 -- What the code and the proofs are cut by: no promise under the roof needs a definition of this file.
 use Rattle.vault.specs.Job.{Job, Byte, compare, done, kept, put, reveal}
-use Rattle.vault.specs.Vault.{inSetup}
+use Rattle.vault.specs.Vault.{in_setup}
 use Rattle.vault.specs.Product.{Product, Site, machine}
 use Rattle.std.specs.Prelude.{true, false, ◌≡◌}
 
@@ -20,9 +20,9 @@ Whole (put a) (put b) = Unit {0}
 -- What a product must see to, job by job: outside Setup the password is kept or put as a whole, never byte by byte;
 -- a right guess leaves the switch in Setup; only in Setup is the password revealed.
 abbrev pub Proper : (P : Product) → P.Plain → Job P.Plain P.Shown → Type 0
-Proper P p (done o c) = inSetup (P.mode p) ≡ false → Whole c.first c.second
-Proper P p (compare guess right wrong) = inSetup (P.mode right.next) ≡ true
-Proper P p (reveal show next) = inSetup (P.mode p) ≡ true
+Proper P p (done o c) = in_setup (P.mode p) ≡ false → Whole c.first c.second
+Proper P p (compare guess right wrong) = in_setup (P.mode right.next) ≡ true
+Proper P p (reveal show next) = in_setup (P.mode p) ≡ true
 
 -- The product sees to it in every state, at every event.
 abbrev pub Careful : Product → Type 0

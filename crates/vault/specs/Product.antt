@@ -2,7 +2,7 @@
 use Rattle.std.specs.Prelude.{false, List, ◌≡◌, ℕ}
 use Rattle.vault.specs.Job.{Answered, Job, Switch, guessed, settled, switch}
 use Rattle.vault.specs.Machine.{Machine, Throughout, gathered, several}
-use Rattle.vault.specs.Vault.{inSetup}
+use Rattle.vault.specs.Vault.{in_setup}
 use Rattle.vault.specs.declared.Mode.{Mode}
 use Rattle.vault.specs.declared.Password.{Password}
 
@@ -15,8 +15,8 @@ pub record Product : Type 1 where
   pub job : Plain → Event → Job Plain Shown
 
 -- What an event shows, and the whole switch after it.
-unfoldable pub responseOf : (P : Product) → Switch P.Plain → P.Event → Answered P.Plain P.Shown
-responseOf P s e = settled s.password (P.job s.plain e)
+unfoldable pub response_of : (P : Product) → Switch P.Plain → P.Event → Answered P.Plain P.Shown
+response_of P s e = settled s.password (P.job s.plain e)
 
 -- The product as a machine: its states are switches.
 abbrev pub machine : Product → Machine
@@ -24,8 +24,8 @@ machine P = record {
   State = Switch P.Plain;
   Event = P.Event;
   Shown = P.Shown;
-  shown = λ s e. (responseOf P s e).shown;
-  next = λ s e. (responseOf P s e).next;
+  shown = λ s e. (response_of P s e).shown;
+  next = λ s e. (response_of P s e).next;
 }
 
 -- A site: whether it is outside Setup, when two differ in their passwords alone, which guesses an event compares, and the same
@@ -41,7 +41,7 @@ pub record Site : Type 1 where
 abbrev pub alone : Product → Site
 alone P = record {
   machine = machine P;
-  Outside = λ s. inSetup (P.mode s.plain) ≡ false;
+  Outside = λ s. in_setup (P.mode s.plain) ≡ false;
   Alike = λ s t. s.plain ≡ t.plain;
   guessed = λ s e. guessed (P.job s.plain e);
   given = λ w s. switch s.plain w;

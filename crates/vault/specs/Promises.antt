@@ -64,5 +64,5 @@ pub record Keeps (S : Site) : Type 0 where
 pub record KeepsItsPassword (P : Product) : Type 0 where
   pub one : Keeps (alone P)
   pub many : Keeps (flats (alone P))
-  pub between-two : SecretBetweenTwo P
-  pub in-setup : SecretInSetup P
+  pub between_two : SecretBetweenTwo P
+  pub in_setup_lem : SecretInSetup P

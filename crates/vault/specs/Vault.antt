@@ -11,7 +11,7 @@ password first second = record { 0 = first; 1 = second }
 unfoldable pub matches : Password → Password → Bool
 matches w guess = eqb w.0 guess.0 && eqb w.1 guess.1
 
-unfoldable pub inSetup : Mode → Bool
-inSetup Normal = false
-inSetup Setup = true
-inSetup Factory = false
+unfoldable pub in_setup : Mode → Bool
+in_setup Normal = false
+in_setup Setup = true
+in_setup Factory = false

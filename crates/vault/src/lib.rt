@@ -1,9 +1,10 @@
 // The three modes, the network password, and the comparison of a guess with it.
+#![tactic(auto)]
 ghost use Rattle.std.specs.Prelude.{◌≡◌};
 ghost use Rattle.vault.specs.Vault.{matches};
 
 // `Factory` is Factory Default.
-#[derive(Drop)]
+#[derive(Clone, Copy)]
 pub enum Mode {
     Normal,
     Setup,
@@ -11,7 +12,7 @@ pub enum Mode {
 }
 
 // Registers 0x02 and 0x03.
-#[derive(Drop)]
+#[derive(Clone, Copy)]
 pub struct Password(pub u8, pub u8);
 
 impl Password {

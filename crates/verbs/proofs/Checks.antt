@@ -10,7 +10,7 @@ use lib.ListN.{length}
 use Rattle.words.proofs.Laws.{cases, tests}
 use Rattle.verbs.specs.declared.Verb.{Verb}
 use Rattle.verbs.specs.declared.Verb.TheVariants.{Open, Close, Get, Set, Activate, Deactivate, Goto, FadeStart, FadeStop, Blink, Report, Store, Unlisted}
-use Rattle.verbs.specs.Verbs.{verbOf, listed, argument, arguments, registersInRange, values, suits}
+use Rattle.verbs.specs.Verbs.{verb_of, listed, argument, arguments, registers_in_range, values, suits}
 use Rattle.verbs.specs.Promises.{commands, NoneOf, Takes, Range, Suits}
 
 -- A test that is the conjunction of two says what both say.
@@ -19,11 +19,11 @@ both_say a b p q =
     (λ e. let two = (and-eq-true_iff a b).0 e in (p.0 two.0, q.0 two.1), λ w. (and-eq-true_iff a b).1 (p.1 w.0, q.1 w.1))
 
 -- A test of two numbers says their order.
-pub less-says : (a b : ℕ) → (ltb a b ≡ true) ↔ (a < b)
-less-says a b = (ltb-true a b, lt-ltb a b)
+pub less_says : (a b : ℕ) → (ltb a b ≡ true) ↔ (a < b)
+less_says a b = (ltb-true a b, lt-ltb a b)
 
-pub most-says : (a b : ℕ) → (leb a b ≡ true) ↔ (a ≤ b)
-most-says a b = (leb-true a b, le-leb a b)
+pub most_says : (a b : ℕ) → (leb a b ≡ true) ↔ (a ≤ b)
+most_says a b = (leb-true a b, le-leb a b)
 
 -- The number of each command, and that it is the one read.
 abbrev pub Number : Verb → ℕ → Type 0
@@ -41,8 +41,8 @@ Number Report n = n ≡ 0x30
 Number Store n = n ≡ 0x31
 Number Unlisted n = NoneOf commands n
 
-pub numbered : (n : ℕ) → Number (verbOf n) n
-unfolding verbOf
+pub numbered : (n : ℕ) → Number (verb_of n) n
+unfolding verb_of
 numbered n =
     let row : Verb → Type 0 = λ v. Number v n in
     cases row (eqb n 0x03) (eqb-true _ _)
@@ -78,9 +78,9 @@ numbered n =
     )))))))))))))
 
 -- 11: a command is not listed exactly when it has none of the numbers.
-pub listed-says : (n : ℕ) → (listed (verbOf n) ≡ false) ↔ NoneOf commands n
-unfolding verbOf
-listed-says n = (go (verbOf n) (numbered n), λ w. search tests)
+pub listed_says : (n : ℕ) → (listed (verb_of n) ≡ false) ↔ NoneOf commands n
+unfolding verb_of
+listed_says n = (go (verb_of n) (numbered n), λ w. search tests)
   where
     go : (v : Verb) → Number v n → listed v ≡ false → NoneOf commands n
     go Unlisted w e = w
@@ -98,28 +98,28 @@ listed-says n = (go (verbOf n) (numbered n), λ w. search tests)
     go Store w e = absurd (true≢false e)
 
 -- 12: the arguments suit the command exactly when count and range are right.
-takes-says : (m : List ℕ) (least most : ℕ) → (arguments m least most ≡ true) ↔ Takes least most m
+takes_says : (m : List ℕ) (least most : ℕ) → (arguments m least most ≡ true) ↔ Takes least most m
 unfolding arguments
-takes-says m least most = both_say (ltb least (length m)) (leb (length m) (most + 1)) (less-says _ _) (most-says _ _)
+takes_says m least most = both_say (ltb least (length m)) (leb (length m) (most + 1)) (less_says _ _) (most_says _ _)
 
-range-says : (first count : ℕ) → (registersInRange first count ≡ true) ↔ Range first count
-unfolding registersInRange
-range-says first count =
-    both_say (leb 1 count) (leb count 16 && leb (first + count) 256) (most-says _ _)
-    (both_say (leb count 16) (leb (first + count) 256) (most-says _ _) (most-says _ _))
+range_says : (first count : ℕ) → (registers_in_range first count ≡ true) ↔ Range first count
+unfolding registers_in_range
+range_says first count =
+    both_say (leb 1 count) (leb count 16 && leb (first + count) 256) (most_says _ _)
+    (both_say (leb count 16) (leb (first + count) 256) (most_says _ _) (most_says _ _))
 
-pub suits-says : (v : Verb) (m : List ℕ) → (suits v m ≡ true) ↔ Suits v m
+pub suits_says : (v : Verb) (m : List ℕ) → (suits v m ≡ true) ↔ Suits v m
 unfolding suits
-suits-says Open m = takes-says m 2 2
-suits-says Close m = takes-says m 0 0
-suits-says Get m = both_say (arguments m 2 2) (registersInRange (argument m 1) (argument m 2)) (takes-says m 2 2) (range-says _ _)
-suits-says Set m = range-says (argument m 1) (values m)
-suits-says Activate m = takes-says m 0 0
-suits-says Deactivate m = takes-says m 0 0
-suits-says Goto m = takes-says m 1 2
-suits-says FadeStart m = takes-says m 1 2
-suits-says FadeStop m = takes-says m 0 0
-suits-says Blink m = takes-says m 0 1
-suits-says Report m = takes-says m 0 0
-suits-says Store m = takes-says m 0 0
-suits-says Unlisted m = (λ e. absurd (false≢true e), λ w. absurd w)
+suits_says Open m = takes_says m 2 2
+suits_says Close m = takes_says m 0 0
+suits_says Get m = both_say (arguments m 2 2) (registers_in_range (argument m 1) (argument m 2)) (takes_says m 2 2) (range_says _ _)
+suits_says Set m = range_says (argument m 1) (values m)
+suits_says Activate m = takes_says m 0 0
+suits_says Deactivate m = takes_says m 0 0
+suits_says Goto m = takes_says m 1 2
+suits_says FadeStart m = takes_says m 1 2
+suits_says FadeStop m = takes_says m 0 0
+suits_says Blink m = takes_says m 0 1
+suits_says Report m = takes_says m 0 0
+suits_says Store m = takes_says m 0 0
+suits_says Unlisted m = (λ e. absurd (false≢true e), λ w. absurd w)

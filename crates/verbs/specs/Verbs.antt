@@ -5,8 +5,8 @@ use Rattle.verbs.specs.declared.Verb.{Verb}
 use Rattle.verbs.specs.declared.Verb.TheVariants.{Open, Close, Get, Set, Activate, Deactivate, Goto, FadeStart, FadeStop, Blink, Report, Store, Unlisted}
 
 -- 01, Commands, 1 to 4: the number of each command.
-unfoldable pub verbOf : ℕ → Verb
-verbOf command =
+unfoldable pub verb_of : ℕ → Verb
+verb_of command =
     if eqb command 0x03 then Open
     else if eqb command 0x04 then Close
     else if eqb command 0x10 then Get
@@ -50,8 +50,8 @@ unfoldable pub arguments : List ℕ → ℕ → ℕ → Bool
 arguments message least most = ltb least (length message) && leb (length message) (most + 1)
 
 -- 01, Commands, 3 and 6: 1 to 16 registers, none past 0xFF.
-unfoldable pub registersInRange : ℕ → ℕ → Bool
-registersInRange first count = leb 1 count && (leb count 16 && leb (first + count) 256)
+unfoldable pub registers_in_range : ℕ → ℕ → Bool
+registers_in_range first count = leb 1 count && (leb count 16 && leb (first + count) 256)
 
 -- How many values follow the first register's number.
 abbrev pub values : List ℕ → ℕ
@@ -62,8 +62,8 @@ values message = length message - 2
 unfoldable pub suits : Verb → List ℕ → Bool
 suits Open message = arguments message 2 2
 suits Close message = arguments message 0 0
-suits Get message = arguments message 2 2 && registersInRange (argument message 1) (argument message 2)
-suits Set message = registersInRange (argument message 1) (values message)
+suits Get message = arguments message 2 2 && registers_in_range (argument message 1) (argument message 2)
+suits Set message = registers_in_range (argument message 1) (values message)
 suits Activate message = arguments message 0 0
 suits Deactivate message = arguments message 0 0
 suits Goto message = arguments message 1 2

@@ -1,9 +1,10 @@
 // The commands: their numbers, and what arguments each takes.
+#![tactic(auto)]
 ghost use Rattle.std.specs.Prelude.{◌≡◌};
-ghost use Rattle.verbs.specs.Verbs.{verbOf, listed, argument, optional, arguments, registersInRange, values, suits};
+ghost use Rattle.verbs.specs.Verbs.{verb_of, listed, argument, optional, arguments, registers_in_range, values, suits};
 
 // The commands. Open and Close are Start and Stop Setup, Store is Store Preset; Unlisted is every number that is none.
-#[derive(Drop)]
+#[derive(Clone, Copy)]
 pub enum Verb {
     Open,
     Close,
@@ -24,7 +25,7 @@ pub enum Verb {
 const MOST: usize = 16;
 
 pub fn verb_of(number: u8) -> Verb
-    ensures { result ≡ verbOf number }
+    ensures { result ≡ verb_of number }
 {
     match number {
         0x03 => Verb::Open,
@@ -77,7 +78,7 @@ fn values(message: &[u8]) -> usize
 
 // 1 to 16 registers, none past 0xFF.
 fn in_range(first: u8, count: usize) -> bool
-    ensures { result ≡ registersInRange first count }
+    ensures { result ≡ registers_in_range first count }
 {
     1 <= count && (count <= MOST && (first as usize) + count <= places::SIZE)
 }

@@ -12,25 +12,25 @@ use Rattle.verdict.specs.declared.Verdict.{Verdict}
 use Rattle.verdict.specs.declared.Verdict.TheVariants.{Stop, Go}
 
 -- 01, Answer numbers, row 14: a wrong guess.
-unfoldable pub verdictOn : Password → Password → Verdict
-verdictOn w guess = if matches w guess then Go else Stop 14
+unfoldable pub verdict_on : Password → Password → Verdict
+verdict_on w guess = if matches w guess then Go else Stop 14
 
 -- Whether an order is refused: by its own number, or by 14.
-unfoldable pub verdictOf : Order → Password → Verdict
-verdictOf (order.Refused n) w = Stop n
-verdictOf (order.Guess guess) w = verdictOn w guess
-verdictOf (order.Read first count) w = Go
-verdictOf (order.Work o) w = Go
+unfoldable pub verdict_of : Order → Password → Verdict
+verdict_of (order.Refused n) w = Stop n
+verdict_of (order.Guess guess) w = verdict_on w guess
+verdict_of (order.Read first count) w = Go
+verdict_of (order.Work o) w = Go
 
 -- 01, Commands, 9: the password is seen in Setup alone.
-unfoldable pub seenBy : Mode → Password → Seen
-seenBy Normal w = seen.Hidden
-seenBy Setup w = seen.Shown w
-seenBy Factory w = seen.Hidden
+unfoldable pub seen_by : Mode → Password → Seen
+seen_by Normal w = seen.Hidden
+seen_by Setup w = seen.Shown w
+seen_by Factory w = seen.Hidden
 
 -- Only a reading sees it.
-unfoldable pub seenOf : Order → Mode → Password → Seen
-seenOf (order.Refused n) mode w = seen.Hidden
-seenOf (order.Guess guess) mode w = seen.Hidden
-seenOf (order.Read first count) mode w = seenBy mode w
-seenOf (order.Work o) mode w = seen.Hidden
+unfoldable pub seen_of : Order → Mode → Password → Seen
+seen_of (order.Refused n) mode w = seen.Hidden
+seen_of (order.Guess guess) mode w = seen.Hidden
+seen_of (order.Read first count) mode w = seen_by mode w
+seen_of (order.Work o) mode w = seen.Hidden

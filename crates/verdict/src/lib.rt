@@ -1,13 +1,14 @@
 // Whether a packet's order is granted, and what of the password a reading is handed.
+#![tactic(auto)]
 ghost use Rattle.std.specs.Prelude.{◌≡◌};
-ghost use Rattle.verdict.specs.Code.{verdictOn, verdictOf, seenBy};
+ghost use Rattle.verdict.specs.Code.{verdict_on, verdict_of, seen_by};
 
 use judge::Order;
 use registers::Seen;
 use vault::{Mode, Password};
 
 // Whether an order is refused, its guess compared with the password, or granted.
-#[derive(Drop)]
+#[derive(Clone, Copy)]
 pub enum Verdict {
     Stop(u8),
     Go,
@@ -15,7 +16,7 @@ pub enum Verdict {
 
 // A wrong password is refused by 14.
 pub fn verdict_of(order: Order, password: Password) -> Verdict
-    ensures { result ≡ verdictOf order password }
+    ensures { result ≡ verdict_of order password }
 {
     match order {
         Order::Refused(number) => Verdict::Stop(number),
@@ -26,7 +27,7 @@ pub fn verdict_of(order: Order, password: Password) -> Verdict
 }
 
 fn opening(password: Password, guess: Password) -> Verdict
-    ensures { result ≡ verdictOn password guess }
+    ensures { result ≡ verdict_on password guess }
 {
     if password.matches(guess) {
         return Verdict::Go;
@@ -35,7 +36,7 @@ fn opening(password: Password, guess: Password) -> Verdict
 }
 
 pub fn seen_by(mode: Mode, password: Password) -> Seen
-    ensures { result ≡ seenBy mode password }
+    ensures { result ≡ seen_by mode password }
 {
     match mode {
         Mode::Normal => Seen::Hidden,

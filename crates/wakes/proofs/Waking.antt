@@ -13,21 +13,21 @@ use Rattle.acts.specs.declared.Core.{Core}
 use Rattle.outbox.specs.Outbox.{placed, tally}
 use Rattle.outbox.specs.declared.Sent.{Sent}
 use Rattle.places.specs.Places.{size}
-use Rattle.registers.specs.Registers.{apart, numberTaken, passwordIn}
+use Rattle.registers.specs.Registers.{apart, number_taken, password_in}
 use Rattle.writes.specs.Writes.{applied}
 use Rattle.registers.specs.declared.Taken.{Taken}
 use Rattle.registers.specs.declared.Taken.TheVariants.{Apart, Refused}
 use Rattle.places.specs.declared.Counter.TheVariants.{Restarts}
 use Rattle.writes.specs.declared.Write.TheVariants.{Count}
-use Rattle.registers.proofs.Laws.{image-taken, image-refused}
+use Rattle.registers.proofs.Laws.{image_taken, image_refused}
 use Rattle.registers.specs.contracts.Taken.{the_type}
 use Rattle.registers.specs.Code.{Took}
-use Rattle.state.specs.State.{counterCount, numberCount, passwordOf}
-use Rattle.panel.specs.Panel.{byte_count, freshPaddles, keptPaddles}
+use Rattle.state.specs.State.{counter_count, number_count, password_of}
+use Rattle.panel.specs.Panel.{byte_count, fresh_paddles, kept_paddles}
 use Rattle.state.specs.Code.{CoreKept}
-use Rattle.switch.specs.Switch.{answer_of, answerWith, restart, switchOf}
-use Rattle.switch.specs.Events.{jobOfDeed, jobOfRestart, woken}
-use Rattle.switch.specs.Respond.{Responds, Starts, noAnswer, startAnswer, startedFrom}
+use Rattle.switch.specs.Switch.{answer_of, answer_with, restart, switch_of}
+use Rattle.switch.specs.Events.{job_of_deed, job_of_restart, woken}
+use Rattle.switch.specs.Respond.{Responds, Starts, no_answer, start_answer, started_from}
 use Rattle.wakes.specs.Code.{Wakes}
 use Rattle.answers.specs.declared.Answer.{Answer}
 use Rattle.switch.proofs.Laws.{leaves, says, unchanged}
@@ -35,28 +35,28 @@ use Rattle.switch.proofs.Laws.{leaves, says, unchanged}
 -- What start and restart share.
 pub woke :
     (w : Password) (c n l all all' : List ℕ) (core : Core) (c' n' l' : List ℕ) (none : Sent) (r : Answer)
-    → all' ≡ applied (Count Restarts) [] all → core ≡ started all' → CoreKept core w c n c' n' → l' ≡ keptPaddles freshPaddles l
-    → none ≡ tally [] → r ≡ answerWith 0 none all' core
+    → all' ≡ applied (Count Restarts) [] all → core ≡ started all' → CoreKept core w c n c' n' → l' ≡ kept_paddles fresh_paddles l
+    → none ≡ tally [] → r ≡ answer_with 0 none all' core
     → Wakes w c n l all r c' n' l' all'
 unfolding woken answer_of
-woke w c n l all all' core c' n' l' none r counts begins kept moved none-sent shows =
+woke w c n l all all' core c' n' l' none r counts begins kept moved none_sent shows =
     let so : core ≡ started (applied (Count Restarts) [] all) = begins ∙ ap started counts in
     record {
-      answered = shows ∙ rw (none-sent, so, counts);
+      answered = shows ∙ rw (none_sent, so, counts);
       kept = subst (λ (x : Core). CoreKept x w c n c' n') so kept;
       moved = moved;
       registers = counts;
     }
 
 -- A restart is answered as such, and nothing is sent.
-pub restart-responds :
-    (c n l all out : List ℕ) (w : Password) (r : Answer) (c' n' l' all' : List ℕ) → room ≤ length out → w ≡ passwordOf n
+pub restart_responds :
+    (c n l all out : List ℕ) (w : Password) (r : Answer) (c' n' l' all' : List ℕ) → room ≤ length out → w ≡ password_of n
     → Wakes w c n l all r c' n' l' all' → Responds restart c n l all out r c' n' l' all' out
-unfolding jobOfDeed jobOfRestart settled woken answer_of placed
-restart-responds c n l all out w r c' n' l' all' enough own wakes =
-    let s = switchOf c n l all in
-    leaves _ 0 [] (woken all).core w freshPaddles c n l out r c' n' l' all' out
-    (says s.plain s.password (length out) restart enough ∙ rw (unchanged (passwordOf n), own, wakes.registers))
+unfolding job_of_deed job_of_restart settled woken answer_of placed
+restart_responds c n l all out w r c' n' l' all' enough own wakes =
+    let s = switch_of c n l all in
+    leaves _ 0 [] (woken all).core w fresh_paddles c n l out r c' n' l' all' out
+    (says s.plain s.password (length out) restart enough ∙ rw (unchanged (password_of n), own, wakes.registers))
     (wakes.answered ∙ rw wakes.registers)
     wakes.kept wakes.moved refl
 
@@ -64,16 +64,16 @@ restart-responds c n l all out w r c' n' l' all' enough own wakes =
 pub starts :
     (image c n l all all₁ : List ℕ) (taken : Taken) (w : Password) (r : Answer) (c' n' l' all' : List ℕ)
     → Took image all taken all₁ → taken ≡ Apart w
-    → Wakes w (replicate counterCount 0) (replicate numberCount 0) (replicate byte_count 0) all₁ r c' n' l' all'
+    → Wakes w (replicate counter_count 0) (replicate number_count 0) (replicate byte_count 0) all₁ r c' n' l' all'
     → Starts (λ a. a) image c n l all r c' n' l' all'
-unfolding startAnswer startedFrom woken
+unfolding start_answer started_from woken
 starts image c n l all all₁ taken w r c' n' l' all' took e wakes = by_size (eqb (length image) size) refl
   where
     by_size : (b : Bool) → eqb (length image) size ≡ b → Starts (λ a. a) image c n l all r c' n' l' all'
     by_size true h =
-        let t = image-taken image all (eqb-true (length image) size h) in
-        let given : taken ≡ Apart (passwordIn image) = took.answered ∙ t.0 in
-        let own : w ≡ passwordIn image = cc in
+        let t = image_taken image all (eqb-true (length image) size h) in
+        let given : taken ≡ Apart (password_in image) = took.answered ∙ t.0 in
+        let own : w ≡ password_in image = cc in
         let bare : all₁ ≡ apart image = took.registers ∙ t.1 in
         record {
           answered = simp (h, ← bare) wakes.answered;
@@ -83,25 +83,25 @@ starts image c n l all all₁ taken w r c' n' l' all' took e wakes = by_size (eq
           registers = simp (h, ← bare) wakes.registers;
         }
     by_size false h =
-        let t = image-refused image all (eqb-false (length image) size h) in
+        let t = image_refused image all (eqb-false (length image) size h) in
         let given : taken ≡ Refused = took.answered ∙ t.0 in
         let z : ◌≡◌ {A = ℕ} 0 1 = cc in
         absurd (omega arith)
 
 pub starts_none :
     (image c n l all all₁ : List ℕ) (taken : Taken) (number : ℕ) (r : Answer)
-    → Took image all taken all₁ → taken ≡ Refused → number ≡ numberTaken taken → r ≡ noAnswer number → Starts (λ a. a) image c n l all r c n l all₁
-unfolding startAnswer
+    → Took image all taken all₁ → taken ≡ Refused → number ≡ number_taken taken → r ≡ no_answer number → Starts (λ a. a) image c n l all r c n l all₁
+unfolding start_answer
 starts_none image c n l all all₁ taken number r took e m f = by_size (eqb (length image) size) refl
   where
     by_size : (b : Bool) → eqb (length image) size ≡ b → Starts (λ a. a) image c n l all r c n l all₁
     by_size true h =
-        let t = image-taken image all (eqb-true (length image) size h) in
-        let given : taken ≡ Apart (passwordIn image) = took.answered ∙ t.0 in
+        let t = image_taken image all (eqb-true (length image) size h) in
+        let given : taken ≡ Apart (password_in image) = took.answered ∙ t.0 in
         let z : ◌≡◌ {A = ℕ} 0 1 = cc in
         absurd (omega arith)
     by_size false h =
-        let t = image-refused image all (eqb-false (length image) size h) in
+        let t = image_refused image all (eqb-false (length image) size h) in
         let bare : all₁ ≡ all = took.registers ∙ t.1 in
         record { answered = simp (h, f, m, e); counted = simp h; numbered = simp h; moved = simp h; registers = simp (h, bare) }
 

@@ -1,9 +1,10 @@
 // The start from a lent image, the restart, and the image that the owner saves.
+#![tactic(auto)]
 ghost use Rattle.core.specs.Prelude.{◌≡◌};
 ghost use Rattle.registers.specs.Registers.{image_of};
-ghost use Rattle.state.specs.State.{passwordOf};
+ghost use Rattle.state.specs.State.{password_of};
 ghost use Rattle.switch.specs.Switch.{restart};
-ghost use Rattle.switch.specs.Respond.{Responds, Starts, noAnswer};
+ghost use Rattle.switch.specs.Respond.{Responds, Starts, no_answer};
 ghost use Rattle.wakes.specs.Code.{Wakes};
 
 use acts::Core;
@@ -59,7 +60,7 @@ pub fn restart(
 
 // The 256 registers with the password among them.
 pub fn image(numbers: &[u8; NUMBERS], all: &[u8; 256], out: &mut [u8; 256])
-    ensures { out.new ≡ image_of all.now (passwordOf numbers.now) }
+    ensures { out.new ≡ image_of all.now (password_of numbers.now) }
 {
     registers::image(all, password_of(numbers), out)
 }
@@ -83,7 +84,7 @@ fn wake(
 
 // What is answered where no switch was started.
 fn nobody(number: u8) -> Answer
-    ensures { result ≡ noAnswer number }
+    ensures { result ≡ no_answer number }
 {
     Answer {
         sent: Sent::none(),

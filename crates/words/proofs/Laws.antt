@@ -29,8 +29,8 @@ neither true b h = absurd (true≢false h)
 neither false b h = (refl, h)
 
 -- No two outcomes: a contract that is an equation with a definition is met by one answer only.
-pub one-outcome {ℓ} : {A : Type ℓ} {meant : A} (r s : A) → r ≡ meant → s ≡ meant → r ≡ s
-one-outcome r s p q = p ∙ sym q
+pub one_outcome {ℓ} : {A : Type ℓ} {meant : A} (r s : A) → r ≡ meant → s ≡ meant → r ≡ s
+one_outcome r s p q = p ∙ sym q
 
 -- Two numbers: the first is below the second, or it is not.
 pub two_ways {ℓ} : {X : Type ℓ} (a b : ℕ) → (a < b → X) → (b ≤ a → X) → X
@@ -64,5 +64,5 @@ kept_back X read tell law x old =
     (λ other. law x)
 
 -- As many as there are after each was turned into another.
-pub length-of-mapped : (X Y : Type 0) (f : X → Y) (l : List X) (n : ℕ) → length (map f l) ≡ n → length l ≡ n
-length-of-mapped X Y f l n e = sym (length-map l f) ∙ e
+pub length_of_mapped : (X Y : Type 0) (f : X → Y) (l : List X) (n : ℕ) → length (map f l) ≡ n → length l ≡ n
+length_of_mapped X Y f l n e = sym (length-map l f) ∙ e

@@ -11,7 +11,7 @@ use lib.ListN.{length, get_or, take, drop, set, length-drop}
 use lib.Seq.{drop-cons, paste, take-length, take_at, set_at, drop-drop, append_snoc}
 use Rattle.words.specs.Words.{if◌then◌else◌}
 use Rattle.packet.specs.declared.Header.{Header}
-use Rattle.packet.specs.Layout.{headBytes, total, balance, packed}
+use Rattle.packet.specs.Layout.{head_bytes, total, balance, packed}
 
 -- A field shifted past another one and joined with it by `|` is their sum.
 pub joined : (a k b : ℕ) → a * 2 ^ k < 256 → b < 2 ^ k → bit_or (a * 2 ^ k % 256) b ≡ a * 2 ^ k + b
@@ -23,23 +23,23 @@ bit true = refl
 bit false = refl
 
 -- A bool as a number is 0 or 1.
-pub bit-small : (b : Bool) → (if b then 1 else 0) ≤ 1
-bit-small true = omega arith
-bit-small false = omega arith
+pub bit_small : (b : Bool) → (if b then 1 else 0) ≤ 1
+bit_small true = omega arith
+bit_small false = omega arith
 
 -- The header's bytes, the copied message and the balanced sum, each as its function leaves it, are the packet at the front of the buffer.
 pub laid_out : (h : Header) (m out head copy : List ℕ) (sum last : ℕ) → length m + 6 ≤ length out
-    → head ≡ headBytes h (length m) (drop 5 out)
+    → head ≡ head_bytes h (length m) (drop 5 out)
     → copy ≡ paste head 5 m (length m)
     → sum ≡ total (take (5 + length m) copy) % 256
     → last ≡ balance sum
     → set copy (5 + length m) last ≡ packed h m ++ drop (length m + 6) out
-unfolding headBytes packed
+unfolding head_bytes packed
 laid_out h m out head copy sum last room head-is Copy-is sum_is_lem last-is =
-    let front = headBytes h (length m) m in
+    let front = head_bytes h (length m) m in
     let left = drop 5 out in
     let n = length m in
-    let copied : copy ≡ front ++ drop n left = Copy-is ∙ rw (head-is, take-length m, ← drop-drop n 5 (headBytes h n left)) in
+    let copied : copy ≡ front ++ drop n left = Copy-is ∙ rw (head-is, take-length m, ← drop-drop n 5 (head_bytes h n left)) in
     let balanced : last ≡ balance (total front % 256) =
     last-is ∙ ap balance (sum_is_lem ∙ rw (copied, take_at front (drop n left) (5 + n) (omega arith))) in
     let six : 5 + suc n ≡ n + 6 = omega arith in

@@ -5,10 +5,10 @@ use Rattle.words.specs.Words.{Bytes}
 use Rattle.packet.specs.declared.Header.{Header}
 use Rattle.packet.specs.declared.Frame.TheVariants.{Read}
 use Rattle.packet.specs.Layout.{header, packed}
-use Rattle.packet.specs.Reading.{read_of, numberOfFrame, messageOf}
+use Rattle.packet.specs.Reading.{read_of, number_of_frame, message_of}
 use Rattle.writer.specs.declared.Written.{Written}
 use Rattle.writer.specs.declared.Written.TheVariants as written
-use Rattle.writer.specs.Writing.{written_of, numberOfWritten, Wrote}
+use Rattle.writer.specs.Writing.{written_of, number_of_written, Wrote}
 
 -- What row 15 is the opposite of, part by part: each field fits its bits, and the message has 1 to 18 bytes.
 pub record Ranges (h : Header) (size : ℕ) : Type 0 where
@@ -34,7 +34,7 @@ pub data WrittenRow (h : Header) (size room : ℕ) : ℕ → Type 0 where
 -- 01, Answer numbers, heading of the table: for the writer, each answer, the length with it, and each number if and only if its row holds.
 pub record WrittenExactly : Type 0 where
   pub answer : (w : Written) (h : Header) (size room : ℕ) → (written_of h size room ≡ w) ↔ GivenWritten w h size room
-  pub number : (h : Header) (size room n : ℕ) → (numberOfWritten (written_of h size room) ≡ n) ↔ WrittenRow h size room n
+  pub number : (h : Header) (size room n : ℕ) → (number_of_written (written_of h size room) ≡ n) ↔ WrittenRow h size room n
 
 -- No two outcomes: the writer's promise fixes the answer and every byte of the buffer.
 abbrev pub WritesOneWay : Type 0
@@ -46,28 +46,28 @@ WritesOneWay =
 abbrev pub ReadsBack : Type 0
 ReadsBack =
     (h : Header) (message : List ℕ) → Ranges h (length message)
-    → (read_of (packed h message) ≡ Read h) × (messageOf (packed h message) ≡ message)
+    → (read_of (packed h message) ≡ Read h) × (message_of (packed h message) ≡ message)
 
 -- Writing what was read gives back the same bytes.
 abbrev pub WritesBack : Type 0
-WritesBack = (p : List ℕ) (h : Header) → Bytes p → read_of p ≡ Read h → packed h (messageOf p) ≡ p
+WritesBack = (p : List ℕ) (h : Header) → Bytes p → read_of p ≡ Read h → packed h (message_of p) ≡ p
 
 -- Reading back, of the caller's buffer: its front reads as what was written, and the bytes behind it are kept.
 abbrev pub ReadsBackLent : Type 0
 ReadsBackLent =
     (h : Header) (message before after : List ℕ) (n : ℕ) → Wrote h message before (written.Packet n) after
-    → (read_of (take n after) ≡ Read h) × ((messageOf (take n after) ≡ message) × (drop n after ≡ drop n before))
+    → (read_of (take n after) ≡ Read h) × ((message_of (take n after) ≡ message) × (drop n after ≡ drop n before))
 
 -- Writing back, of the caller's buffer: a packet that was read, written where there is room for it, stands at the front again, and the bytes behind it are kept.
 abbrev pub WritesBackLent : Type 0
 WritesBackLent =
     (p : List ℕ) (h : Header) (before after : List ℕ) (answer : Written)
-    → Bytes p → read_of p ≡ Read h → length p ≤ length before → Wrote h (messageOf p) before answer after
+    → Bytes p → read_of p ≡ Read h → length p ≤ length before → Wrote h (message_of p) before answer after
     → (answer ≡ written.Packet (length p)) × ((take (length p) after ≡ p) × (drop (length p) after ≡ drop (length p) before))
 
 -- 01, Numbers to test by, 2 (a) and 5 (e): the request of (a) is read, its reply is written, and the request with a wrong last byte is 7.
 pub record WorkedPackets : Type 0 where
   pub asked : read_of (0x07 ∷ 0x00 ∷ 0x01 ∷ 0x05 ∷ 0x09 ∷ 0x30 ∷ 0xBA ∷ []) ≡ Read (header false 1 5 9)
-  pub message : messageOf (0x07 ∷ 0x00 ∷ 0x01 ∷ 0x05 ∷ 0x09 ∷ 0x30 ∷ 0xBA ∷ []) ≡ 0x30 ∷ []
+  pub message : message_of (0x07 ∷ 0x00 ∷ 0x01 ∷ 0x05 ∷ 0x09 ∷ 0x30 ∷ 0xBA ∷ []) ≡ 0x30 ∷ []
   pub answer : packed (header false 1 9 5) (0x86 ∷ 0x28 ∷ []) ≡ 0x08 ∷ 0x00 ∷ 0x01 ∷ 0x09 ∷ 0x05 ∷ 0x86 ∷ 0x28 ∷ 0x3B ∷ []
-  pub damaged : numberOfFrame (read_of (0x07 ∷ 0x00 ∷ 0x01 ∷ 0x05 ∷ 0x09 ∷ 0x30 ∷ 0xBB ∷ [])) ≡ 7
+  pub damaged : number_of_frame (read_of (0x07 ∷ 0x00 ∷ 0x01 ∷ 0x05 ∷ 0x09 ∷ 0x30 ∷ 0xBB ∷ [])) ≡ 7

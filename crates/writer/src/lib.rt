@@ -1,8 +1,9 @@
 // A packet written from its header and its message, by the layout that it is read by.
+#![tactic(auto)]
 ghost use Rattle.std.specs.Prelude.{◌≡◌, ◌+◌, ◌≤◌, true, ◌++◌, length, drop};
 ghost use Rattle.std.proofs.Math.Seq.{paste};
-ghost use Rattle.packet.specs.Layout.{firstByte, secondByte, headBytes, balance, packed};
-ghost use Rattle.writer.specs.Writing.{fieldsInRange, Wrote};
+ghost use Rattle.packet.specs.Layout.{first_byte, second_byte, head_bytes, balance, packed};
+ghost use Rattle.writer.specs.Writing.{fields_in_range, Wrote};
 
 use packet::{HEAD, Header, THREE_BITS, TWO_BITS, sum};
 
@@ -13,7 +14,7 @@ const LONGEST: usize = 18;
 const AROUND: u8 = 6;
 
 // The writer's answer: how long the packet is, or one of the numbers 15 and 2.
-#[derive(Drop)]
+#[derive(Clone, Copy)]
 pub enum Written {
     Packet(u8),
     Field,
@@ -38,7 +39,7 @@ pub fn write(header: Header, message: &[u8], out: &mut [u8]) -> Written
 }
 
 fn ranged(header: Header, size: usize) -> bool
-    ensures { result ≡ fieldsInRange header size }
+    ensures { result ≡ fields_in_range header size }
 {
     if TWO_BITS < header.repeat {
         return false;
@@ -60,7 +61,7 @@ fn ranged(header: Header, size: usize) -> bool
 
 // The packet at the front of the buffer.
 fn lay(header: Header, message: &[u8], out: &mut [u8])
-    requires { (fieldsInRange header (length message.now) ≡ true) × (length message.now + 6 ≤ length out.old) }
+    requires { (fields_in_range header (length message.now) ≡ true) × (length message.now + 6 ≤ length out.old) }
     ensures { out.new ≡ packed header message.now ++ drop (length message.now + 6) out.old }
 {
     let size = message.len();
@@ -73,8 +74,8 @@ fn lay(header: Header, message: &[u8], out: &mut [u8])
 
 // The five bytes before the message.
 fn head(header: Header, size: usize, out: &mut [u8])
-    requires { (fieldsInRange header size ≡ true) × (5 ≤ length out.old) }
-    ensures { out.new ≡ headBytes header size (drop 5 out.old) }
+    requires { (fields_in_range header size ≡ true) × (5 ≤ length out.old) }
+    ensures { out.new ≡ head_bytes header size (drop 5 out.old) }
 {
     out[0] = first(header.link, header.repeat, size as u8 + AROUND);
     out[1] = second(header.request, header.count, header.sequence);
@@ -85,14 +86,14 @@ fn head(header: Header, size: usize, out: &mut [u8])
 
 fn first(link: bool, repeat: u8, whole: u8) -> u8
     requires { (repeat ≤ 3) × (whole ≤ 31) }
-    ensures { result ≡ firstByte link repeat whole }
+    ensures { result ≡ first_byte link repeat whole }
 {
     (link as u8) << 7 | (repeat << 5 | whole)
 }
 
 fn second(request: u8, count: u8, sequence: u8) -> u8
     requires { (request ≤ 7) × ((count ≤ 3) × (sequence ≤ 3)) }
-    ensures { result ≡ secondByte request count sequence }
+    ensures { result ≡ second_byte request count sequence }
 {
     request << 4 | (count << 2 | sequence)
 }

@@ -1,7 +1,8 @@
 // All that may be written to the registers, and the one function that writes it.
+#![tactic(auto)]
 ghost use Rattle.std.specs.Prelude.{◌≡◌, ◌+◌, ◌-◌, ◌<◌, ◌≤◌, length};
 ghost use Rattle.vault.specs.Job.{became, changed};
-ghost use Rattle.writes.specs.Writes.{applied, byte_of, changeOf, oneMore, factoryBy, stored, valuesBy};
+ghost use Rattle.writes.specs.Writes.{applied, byte_of, change_of, one_more, factory_by, stored, values_by};
 ghost use Rattle.writes.specs.Code.{filled};
 
 use places::{Counter, DIMMING, FIRST, LIGHT, NETWORK, SAVED, SECOND, SIZE, UNIT, level_place};
@@ -9,7 +10,7 @@ use units::Percent;
 use vault::Password;
 
 // What an event writes. The bytes of `Values` are lent beside it.
-#[derive(Drop)]
+#[derive(Clone, Copy)]
 pub enum Write {
     Nothing,
     Count(Counter),
@@ -53,7 +54,7 @@ pub fn apply(write: Write, values: &[u8], all: &mut [u8; 256])
 
 // What becomes of the password when the same is written.
 pub fn password(write: Write, values: &[u8], old: Password) -> Password
-    ensures { result ≡ changed (changeOf write values.now) old }
+    ensures { result ≡ changed (change_of write values.now) old }
 {
     match write {
         Write::Nothing => old,
@@ -73,7 +74,7 @@ pub fn password(write: Write, values: &[u8], old: Password) -> Password
 
 // A counter does not wrap.
 fn more(value: u8) -> u8
-    ensures { result ≡ oneMore value }
+    ensures { result ≡ one_more value }
 {
     if value < 255 {
         return value + 1;
@@ -96,9 +97,9 @@ fn store(place: usize, value: u8, all: &mut [u8; 256])
     }
 }
 
-// From the last line of `factoryAt` up: what it asks first is written last. Its 0x02 and 0x03 are the password's.
+// From the last line of `factory_at` up: what it asks first is written last. Its 0x02 and 0x03 are the password's.
 fn store_factory(all: &mut [u8; 256])
-    ensures { all.new ≡ factoryBy 256 all.old }
+    ensures { all.new ≡ factory_by 256 all.old }
 {
     sized(all);
     fill(FILLED, LEFT, 255, all);
@@ -132,7 +133,7 @@ fn sized(all: &[u8; 256])
 // Past the password and within the registers the values are copied; elsewhere each place is looked at.
 fn store_values(first: usize, values: &[u8], all: &mut [u8; 256])
     requires { first < 256 }
-    ensures { all.new ≡ valuesBy (length values.now) first values.now all.old }
+    ensures { all.new ≡ values_by (length values.now) first values.now all.old }
 {
     if SECOND < first && first + values.len() <= SIZE {
         return copy(first, values, all);
@@ -142,7 +143,7 @@ fn store_values(first: usize, values: &[u8], all: &mut [u8; 256])
 
 fn copy(first: usize, values: &[u8], all: &mut [u8; 256])
     requires { (3 < first) × (first + length values.now ≤ 256) }
-    ensures { all.new ≡ valuesBy (length values.now) first values.now all.old }
+    ensures { all.new ≡ values_by (length values.now) first values.now all.old }
 {
     let mut i = 0;
     while i < values.len() {
@@ -153,7 +154,7 @@ fn copy(first: usize, values: &[u8], all: &mut [u8; 256])
 
 fn store_each(first: usize, values: &[u8], all: &mut [u8; 256])
     requires { first < 256 }
-    ensures { all.new ≡ valuesBy (length values.now) first values.now all.old }
+    ensures { all.new ≡ values_by (length values.now) first values.now all.old }
 {
     let mut i = 0;
     while i < values.len() {

@@ -1,6 +1,6 @@
 use borrow.Author.Rules.{rules}
 use Rattle.words.proofs.Laws.{tests}
-use Rattle.acts.specs.Core.{setBy}
+use Rattle.acts.specs.Core.{set_by}
 use Rattle.acts.proofs.set_by.Statement.{statement}
 use Rattle.acts.proofs.set_by.Tie as tie
 
@@ -14,7 +14,7 @@ set-requires : tie.Need-set-requires
 set-requires c κs = search rules
 
 returns : tie.Need-returns
-unfolding setBy
+unfolding set_by
 returns c = search (tests, c.set.ensures, c.before.of.ensures, c.before.before.dimming.ensures)
 
 pub set-by-spec : {M : Type 1} → statement M

@@ -1,6 +1,6 @@
 -- `show` meets its contract: the image with the password in it, or none.
 use borrow.Author.Rules.{rules}
-use Rattle.desk.specs.Playing.{shownOf}
+use Rattle.desk.specs.Playing.{shown_of}
 use Rattle.desk.proofs.show.Statement.{statement}
 use Rattle.desk.proofs.show.Tie as tie
 
@@ -11,7 +11,7 @@ same_length : tie.Need-same-length
 same_length c = search rules
 
 returns : tie.Need-returns
-unfolding shownOf
+unfolding shown_of
 returns c = rw c.before.before.before.before.if1.true c.before.before.none.ensures
 
 image-requires : tie.Need-image-requires
@@ -24,7 +24,7 @@ same-length-2 : tie.Need-same-length-2
 same-length-2 c = search rules
 
 returns-2 : tie.Need-returns-2
-unfolding shownOf
+unfolding shown_of
 returns-2 c =
     let dump = c.before.before in
     let image = dump.before.before.before in

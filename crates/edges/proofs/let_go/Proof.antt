@@ -1,6 +1,6 @@
 use borrow.Author.Rules.{rules}
 use native.Mathlib.Omega.{arith}
-use Rattle.edges.proofs.Pressing.{goes-signalled, goes-silently}
+use Rattle.edges.proofs.Pressing.{goes_signalled, goes_silently}
 use Rattle.edges.proofs.let_go.Statement.{statement}
 use Rattle.edges.proofs.let_go.Tie as tie
 
@@ -38,7 +38,7 @@ returns : tie.Need-returns
 returns c =
     let lay = c.before.before.before.before in
     let keep = lay.before.before.before.before.before.before in
-    goes-silently _ _ _ _ _ _ _ _ _ _ _ _ _ _ _ _ keep.before.before.before.before.before.before.before.mode-in.ensures keep.before.before.before.before.dimmer-of.ensures keep.before.before.before.ended.ensures keep.keep-dimmer.ensures
+    goes_silently _ _ _ _ _ _ _ _ _ _ _ _ _ _ _ _ keep.before.before.before.before.before.before.before.mode-in.ensures keep.before.before.before.before.dimmer-of.ensures keep.before.before.before.ended.ensures keep.keep-dimmer.ensures
     lay.before.before.before.before.before.percent.ensures lay.before.before.before.before.announce.ensures lay.before.before.before.none.ensures lay.before.before.with.ensures lay.lay.ensures (omega arith)
 
 signal-requires : tie.Need-signal-requires
@@ -51,7 +51,7 @@ returns-2 : tie.Need-returns-2
 returns-2 c =
     let lay = c.before.before.before.before.before.before.before in
     let keep = lay.before.before.before.before.before.before in
-    goes-signalled _ _ _ _ _ _ _ _ _ _ _ _ _ _ _ _ keep.before.before.before.before.before.before.before.mode-in.ensures keep.before.before.before.before.dimmer-of.ensures keep.before.before.before.ended.ensures keep.keep-dimmer.ensures
+    goes_signalled _ _ _ _ _ _ _ _ _ _ _ _ _ _ _ _ keep.before.before.before.before.before.before.before.mode-in.ensures keep.before.before.before.before.dimmer-of.ensures keep.before.before.before.ended.ensures keep.keep-dimmer.ensures
     lay.before.before.before.before.before.percent.ensures lay.before.before.before.before.announce.ensures lay.before.before.before.none.ensures lay.before.before.with.ensures lay.lay.ensures _ _ (omega arith) c.signal.ensures
 
 pub let-go-spec : {M : Type 1} → statement M

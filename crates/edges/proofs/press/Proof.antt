@@ -1,8 +1,8 @@
 use borrow.Author.Rules.{rules}
 use native.Mathlib.Omega.{arith}
 use Rattle.switch.specs.Switch.{press}
-use Rattle.switch.proofs.Laws.{short-responds}
-use Rattle.edges.proofs.Pressing.{press-known, press-unknown}
+use Rattle.switch.proofs.Laws.{short_responds}
+use Rattle.edges.proofs.Pressing.{press-known, press_unknown}
 use Rattle.edges.proofs.press.Statement.{statement}
 use Rattle.edges.proofs.press.Tie as tie
 
@@ -15,7 +15,7 @@ shown-requires c κs = search rules
 returns : tie.Need-returns
 returns c =
     let a = c.before.before.before.before.args in
-    short-responds (press a.contact) _ _ _ _ _ c.before.none.result c.shown.result (omega arith) c.before.none.ensures c.shown.ensures
+    short_responds (press a.contact) _ _ _ _ _ c.before.none.result c.shown.result (omega arith) c.before.none.ensures c.shown.ensures
 
 none-requires-2 : tie.Need-none-requires-2
 none-requires-2 c κs = search rules
@@ -24,7 +24,7 @@ shown-requires-2 : tie.Need-shown-requires-2
 shown-requires-2 c κs = search rules
 
 returns-2 : tie.Need-returns-2
-returns-2 c = press-unknown _ _ _ _ _ _ c.before.none2.result c.shown2.result (omega arith) c.before.none2.ensures (omega arith) c.shown2.ensures
+returns-2 c = press_unknown _ _ _ _ _ _ c.before.none2.result c.shown2.result (omega arith) c.before.none2.ensures (omega arith) c.shown2.ensures
 
 press-requires : tie.Need-press-requires
 press-requires c κs = search rules

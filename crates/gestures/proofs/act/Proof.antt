@@ -1,5 +1,5 @@
 use borrow.Author.Rules.{rules}
-use Rattle.gestures.specs.Gestures.{acted, actedIn}
+use Rattle.gestures.specs.Gestures.{acted, acted_in}
 use Rattle.gestures.proofs.act.Statement.{statement}
 use Rattle.gestures.proofs.act.Tie as tie
 
@@ -22,15 +22,15 @@ in-factory-requires : tie.Need-in-factory-requires
 in-factory-requires c κs = search rules
 
 returns : tie.Need-returns
-unfolding acted actedIn
+unfolding acted acted_in
 returns c = simp (c.in-normal.ensures, c.before.enum_told.given.1)
 
 returns-2 : tie.Need-returns-2
-unfolding acted actedIn
-returns-2 c = simp (c.in-setup.ensures, c.before.enum-told2.given.1)
+unfolding acted acted_in
+returns-2 c = simp (c.in_setup_lem.ensures, c.before.enum-told2.given.1)
 
 returns-3 : tie.Need-returns-3
-unfolding acted actedIn
+unfolding acted acted_in
 returns-3 c = simp (c.in-factory.ensures, c.before.enum-told3.given.1)
 
 pub act-spec : {M : Type 1} → statement M

@@ -1,6 +1,6 @@
 use borrow.Author.Rules.{rules}
 use Rattle.words.proofs.Laws.{tests}
-use Rattle.gestures.specs.Gestures.{byAction}
+use Rattle.gestures.specs.Gestures.{by_action}
 use Rattle.gestures.proofs.doing.Statement.{statement}
 use Rattle.gestures.proofs.doing.Tie as tie
 
@@ -8,7 +8,7 @@ setting-requires : tie.Need-setting-requires
 setting-requires c κs = search rules
 
 returns : tie.Need-returns
-unfolding byAction
+unfolding by_action
 returns c = search (tests, c.setting.ensures)
 
 pub doing-spec : {M : Type 1} → statement M

@@ -1,5 +1,5 @@
 use borrow.Author.Rules.{rules}
-use Rattle.gestures.specs.Gestures.{actedInFactory}
+use Rattle.gestures.specs.Gestures.{acted_in_factory}
 use Rattle.gestures.proofs.in_factory.Statement.{statement}
 use Rattle.gestures.proofs.in_factory.Tie as tie
 
@@ -34,19 +34,19 @@ unwritten-requires-3 : tie.Need-unwritten-requires-3
 unwritten-requires-3 c κs = search rules
 
 returns : tie.Need-returns
-unfolding actedInFactory
+unfolding acted_in_factory
 returns c = simp (c.unwritten.ensures, c.before.enum_told.given.1)
 
 returns-2 : tie.Need-returns-2
-unfolding actedInFactory
+unfolding acted_in_factory
 returns-2 c = simp (c.taps-in-factory.ensures, c.before.before.gesture.given.1)
 
 returns-3 : tie.Need-returns-3
-unfolding actedInFactory
+unfolding acted_in_factory
 returns-3 c = simp (c.unwritten2.ensures, c.before.holding.ensures, c.before.before.enum-told2.given.1)
 
 returns-4 : tie.Need-returns-4
-unfolding actedInFactory
+unfolding acted_in_factory
 returns-4 c = simp (c.unwritten3.ensures, c.before.stopping.ensures, c.before.before.enum-told3.given.1)
 
 pub in-factory-spec : {M : Type 1} → statement M

@@ -1,5 +1,5 @@
 use borrow.Author.Rules.{rules}
-use Rattle.gestures.specs.Gestures.{actedInNormal}
+use Rattle.gestures.specs.Gestures.{acted_in_normal}
 use Rattle.gestures.proofs.in_normal.Statement.{statement}
 use Rattle.gestures.proofs.in_normal.Tie as tie
 
@@ -34,19 +34,19 @@ unwritten-requires-3 : tie.Need-unwritten-requires-3
 unwritten-requires-3 c κs = search rules
 
 returns : tie.Need-returns
-unfolding actedInNormal
+unfolding acted_in_normal
 returns c = simp (c.unwritten.ensures, c.before.enum_told.given.1)
 
 returns-2 : tie.Need-returns-2
-unfolding actedInNormal
+unfolding acted_in_normal
 returns-2 c = simp (c.taps-in-normal.ensures, c.before.before.gesture.given.1)
 
 returns-3 : tie.Need-returns-3
-unfolding actedInNormal
+unfolding acted_in_normal
 returns-3 c = simp (c.unwritten2.ensures, c.before.holding.ensures, c.before.before.enum-told2.given.1)
 
 returns-4 : tie.Need-returns-4
-unfolding actedInNormal
+unfolding acted_in_normal
 returns-4 c = simp (c.unwritten3.ensures, c.before.stopping.ensures, c.before.before.enum-told3.given.1)
 
 pub in-normal-spec : {M : Type 1} → statement M

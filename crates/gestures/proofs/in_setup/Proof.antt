@@ -1,5 +1,5 @@
 use borrow.Author.Rules.{rules}
-use Rattle.gestures.specs.Gestures.{actedInSetup}
+use Rattle.gestures.specs.Gestures.{acted_in_setup}
 use Rattle.gestures.proofs.in_setup.Statement.{statement}
 use Rattle.gestures.proofs.in_setup.Tie as tie
 
@@ -28,19 +28,19 @@ unwritten-requires-3 : tie.Need-unwritten-requires-3
 unwritten-requires-3 c κs = search rules
 
 returns : tie.Need-returns
-unfolding actedInSetup
+unfolding acted_in_setup
 returns c = simp (c.unwritten.ensures, c.before.enum_told.given.1)
 
 returns-2 : tie.Need-returns-2
-unfolding actedInSetup
+unfolding acted_in_setup
 returns-2 c = simp (c.taps-in-setup.ensures, c.before.before.gesture.given.1)
 
 returns-3 : tie.Need-returns-3
-unfolding actedInSetup
+unfolding acted_in_setup
 returns-3 c = simp (c.unwritten2.ensures, c.before.enum-told2.given.1)
 
 returns-4 : tie.Need-returns-4
-unfolding actedInSetup
+unfolding acted_in_setup
 returns-4 c = simp (c.unwritten3.ensures, c.before.enum-told3.given.1)
 
 pub in-setup-spec : {M : Type 1} → statement M

@@ -1,7 +1,7 @@
 use borrow.Author.Rules.{rules}
 use native.Mathlib.Omega.{arith}
 use Rattle.switch.specs.Switch.{receive}
-use Rattle.switch.proofs.Laws.{short-responds}
+use Rattle.switch.proofs.Laws.{short_responds}
 use Rattle.hears.proofs.Receiving.{garbled-responds, granted-responds, stopped-responds}
 use Rattle.hears.proofs.receive.Statement.{statement}
 use Rattle.hears.proofs.receive.Tie as tie
@@ -14,7 +14,7 @@ shown-requires c κs = search rules
 
 returns : tie.Need-returns
 returns c = λ l.
-    short-responds (receive c.before.before.before.before.before.before.before.before.args.packet.now) _ _ l _ _ c.before.before.before.before.none.result c.shown.result (omega arith) c.before.before.before.before.none.ensures c.shown.ensures
+    short_responds (receive c.before.before.before.before.before.before.before.before.args.packet.now) _ _ l _ _ c.before.before.before.before.none.result c.shown.result (omega arith) c.before.before.before.before.none.ensures c.shown.ensures
 
 sized-requires : tie.Need-sized-requires
 sized-requires c κs = search rules

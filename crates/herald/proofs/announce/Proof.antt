@@ -1,6 +1,6 @@
 -- `announce` meets its contract: what the callees hand back, under the test of the link.
 use borrow.Author.Rules.{rules}
-use Rattle.herald.specs.Herald.{gestureMessage}
+use Rattle.herald.specs.Herald.{gesture_message}
 use Rattle.herald.proofs.announce.Statement.{statement}
 use Rattle.herald.proofs.announce.Tie as tie
 use Rattle.herald.specs.Code.{note_of}
@@ -24,7 +24,7 @@ chosen-requires : tie.Need-chosen-requires
 chosen-requires c κs = search rules
 
 returns : tie.Need-returns
-unfolding note_of gestureMessage
+unfolding note_of gesture_message
 returns c =
     let called = c.before.before.before in
     let tested = called.before.before in

@@ -1,5 +1,5 @@
 use borrow.Author.Rules.{rules}
-use Rattle.host.specs.Host.{inFigures}
+use Rattle.host.specs.Host.{in_figures}
 use Rattle.host.proofs.figures_of.Statement.{statement}
 use Rattle.host.proofs.figures_of.Tie as tie
 
@@ -10,7 +10,7 @@ mode-number-requires : tie.Need-mode-number-requires
 mode-number-requires c κs = search rules
 
 returns : tie.Need-returns
-unfolding inFigures
+unfolding in_figures
 returns c = simp (c.mode-number.ensures, c.before.colour-number.ensures)
 
 pub figures-of-spec : {M : Type 1} → statement M

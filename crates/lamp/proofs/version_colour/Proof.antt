@@ -1,4 +1,4 @@
-use Rattle.lamp.specs.Lamp.{versionColour}
+use Rattle.lamp.specs.Lamp.{version_colour}
 use borrow.Author.Rules.{rules}
 use Rattle.lamp.proofs.version_colour.Statement.{statement}
 use Rattle.lamp.proofs.version_colour.Tie as tie
@@ -13,7 +13,7 @@ blinking-requires : tie.Need-blinking-requires
 blinking-requires c κs = search rules
 
 returns : tie.Need-returns
-unfolding versionColour
+unfolding version_colour
 returns c = simp (c.blinking.ensures, c.before.bit-colour.ensures, c.before.before.bit.ensures)
 
 pub version-colour-spec : {M : Type 1} → statement M

@@ -7,7 +7,7 @@ use lib.ListN.{length, drop, drop_of_length-le}
 use Rattle.model.specs.Model.{place}
 use Rattle.page.specs.Page.{page_of, puts}
 use Rattle.ledger.specs.Writing.{more, joined}
-use Rattle.ledger.proofs.Writing.{joined-none, joined-some, packets-next}
+use Rattle.ledger.proofs.Writing.{joined_none, joined_some, packets_next}
 use Rattle.ledger.proofs.joined.Statement.{statement}
 use Rattle.ledger.proofs.joined.Tie as tie
 
@@ -25,7 +25,7 @@ same_length : tie.Need-same-length invariant-loop decreases-loop
 same_length c = search rules
 
 returns : tie.Need-returns invariant-loop decreases-loop
-returns c = joined-none _ _ _ _ c.before.before.before.before.if1.true c.before.before.put.ensures
+returns c = joined_none _ _ _ _ c.before.before.before.before.if1.true c.before.before.put.ensures
 
 shared-slice-read-first : tie.Need-shared-slice-read-first invariant-loop decreases-loop
 shared-slice-read-first c = search rules
@@ -76,7 +76,7 @@ loop-again c =
     let behind = front.before.before in
     let comma = behind.before.before.before in
     let loop = comma.before.before.before.before.loop in
-    (search rules, (packets-next _ _ loop.i _ _ _ _ _ (search rules) comma.put2.ensures behind.behind.ensures front.front2.ensures packet.hex2.ensures ∙ loop.invariant.1.0, search rules))
+    (search rules, (packets_next _ _ loop.i _ _ _ _ _ (search rules) comma.put2.ensures behind.behind.ensures front.front2.ensures packet.hex2.ensures ∙ loop.invariant.1.0, search rules))
 
 same-length-2 : tie.Need-same-length-2 invariant-loop decreases-loop
 same-length-2 c = search rules
@@ -87,7 +87,7 @@ returns-2 c =
     let loop = c.before.loop in
     let first = c.before.before.before.before in
     let a = first.before.before.before.before.before.before.before.before.args in
-    joined-some _ _ _ _ _ _ (omega arith) first.before.front.ensures first.hex.ensures (rw (drop_of_length-le a.sizes.now {i = loop.i} (omega arith)) at loop.invariant.1.0)
+    joined_some _ _ _ _ _ _ (omega arith) first.before.front.ensures first.hex.ensures (rw (drop_of_length-le a.sizes.now {i = loop.i} (omega arith)) at loop.invariant.1.0)
 
 pub joined-spec : {M : Type 1} → statement M
 joined-spec =

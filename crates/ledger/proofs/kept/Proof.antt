@@ -5,18 +5,18 @@ use native.Mathlib.Omega.{arith}
 use borrow.Author.Rules.{rules}
 use lib.ListN.{length, drop}
 use borrow.Author.Tests.{not-true, not-false}
-use Rattle.model.specs.Model.{paddleCount, place}
+use Rattle.model.specs.Model.{paddle_count, place}
 use Rattle.ledger.specs.Writing.{outside, untouched}
-use Rattle.ledger.proofs.Writing.{outside-next, outside-end}
+use Rattle.ledger.proofs.Writing.{outside_next, outside_end}
 use Rattle.ledger.proofs.kept.Statement.{statement}
 use Rattle.ledger.proofs.kept.Tie as tie
 
 abbrev invariant-loop : tie.invariant-loop
 invariant-loop out lengths i₀ i =
-    (i ≤ paddleCount) × ((length lengths ≡ paddleCount) × (untouched (outside (drop i lengths) (drop (i * place) out)) ≡ untouched (outside lengths out)))
+    (i ≤ paddle_count) × ((length lengths ≡ paddle_count) × (untouched (outside (drop i lengths) (drop (i * place) out)) ≡ untouched (outside lengths out)))
 
 abbrev decreases-loop : tie.decreases-loop
-decreases-loop out lengths i₀ i = paddleCount - i
+decreases-loop out lengths i₀ i = paddle_count - i
 
 loop-holds : tie.Need-loop-init invariant-loop decreases-loop
 loop-holds c = (search rules, (search rules, refl))
@@ -47,7 +47,7 @@ returns c =
     let test = c.before in
     let front = test.before.before in
     let loop = front.before.before.before.loop in
-    outside-next _ _ loop.i _ _ _ _ _ _ (search rules) front.before.behind.ensures front.front.ensures test.before.behind2.ensures test.untouched.ensures (not-true _ c.if1.true) loop.invariant.1.1
+    outside_next _ _ loop.i _ _ _ _ _ _ (search rules) front.before.behind.ensures front.front.ensures test.before.behind2.ensures test.untouched.ensures (not-true _ c.if1.true) loop.invariant.1.1
 
 add-i : tie.Need-overflow-add-i invariant-loop decreases-loop
 add-i c = search rules
@@ -60,7 +60,7 @@ loop-again c =
     let test = c.before in
     let front = test.before.before in
     let loop = front.before.before.before.loop in
-    (search rules, (search rules, outside-next _ _ loop.i _ _ _ _ _ _ (search rules) front.before.behind.ensures front.front.ensures test.before.behind2.ensures test.untouched.ensures (not-false _ c.if1.false) loop.invariant.1.1))
+    (search rules, (search rules, outside_next _ _ loop.i _ _ _ _ _ _ (search rules) front.before.behind.ensures front.front.ensures test.before.behind2.ensures test.untouched.ensures (not-false _ c.if1.false) loop.invariant.1.1))
 
 behind-requires-3 : tie.Need-behind-requires-3 invariant-loop decreases-loop
 behind-requires-3 c κs = search rules
@@ -72,7 +72,7 @@ returns-2 : tie.Need-returns-2 invariant-loop decreases-loop
 returns-2 c =
     let left = c.before in
     let loop = left.before.before.loop in
-    outside-end _ _ loop.i _ _ _ (search rules) (omega arith) left.behind3.ensures c.untouched2.ensures loop.invariant.1.1
+    outside_end _ _ loop.i _ _ _ (search rules) (omega arith) left.behind3.ensures c.untouched2.ensures loop.invariant.1.1
 
 pub kept-spec : {M : Type 1} → statement M
 kept-spec =

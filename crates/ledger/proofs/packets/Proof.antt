@@ -3,7 +3,7 @@ use borrow.Author.Rules.{rules}
 use native.Mathlib.Omega.{arith}
 use lib.ListN.{length, length-take}
 use mathlib.Core.Path.{◌≡◌}
-use Rattle.model.specs.Model.{paddleCount}
+use Rattle.model.specs.Model.{paddle_count}
 use Rattle.ledger.specs.Writing.{packets}
 use Rattle.ledger.proofs.packets.Statement.{statement}
 use Rattle.ledger.proofs.packets.Tie as tie
@@ -20,7 +20,7 @@ front-requires c κs = search rules
 joined-requires : tie.Need-joined-requires
 joined-requires c κs =
     let a = c.before.before.before.before.before.before.before.args in
-    let all : length a.sent.lengths ≡ paddleCount = search rules in
+    let all : length a.sent.lengths ≡ paddle_count = search rules in
     rw (c.front.ensures, length-take) (omega arith)
 
 same_length : tie.Need-same-length

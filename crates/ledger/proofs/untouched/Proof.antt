@@ -6,7 +6,7 @@ use native.Mathlib.Omega.{arith}
 use borrow.Author.Rules.{rules}
 use lib.ListN.{length, drop, drop_of_length-le}
 use Rattle.ledger.specs.Writing.{untouched}
-use Rattle.ledger.proofs.Writing.{untouched-next}
+use Rattle.ledger.proofs.Writing.{untouched_next}
 use Rattle.ledger.proofs.untouched.Statement.{statement}
 use Rattle.ledger.proofs.untouched.Tie as tie
 
@@ -32,7 +32,7 @@ loop-again : tie.Need-loop-preserved invariant-loop decreases-loop
 loop-again c =
     let loop = c.before.before.loop in
     let bytes = c.before.before.before.args.bytes.now in
-    (search rules, untouched-next bytes loop.i loop.same (search rules) ∙ loop.invariant.1)
+    (search rules, untouched_next bytes loop.i loop.same (search rules) ∙ loop.invariant.1)
 
 returns : tie.Need-returns invariant-loop decreases-loop
 unfolding untouched

@@ -2,12 +2,12 @@ use borrow.Author.Rules.{rules}
 use mathlib.Core.Path.{sym}
 use lib.ListN.{get_or-eq_default}
 use Rattle.words.proofs.Laws.{tests}
-use Rattle.levels.specs.Levels.{table, ticksPerStep}
+use Rattle.levels.specs.Levels.{table, ticks_per_step}
 use Rattle.levels.proofs.ticks.Statement.{statement}
 use Rattle.levels.proofs.ticks.Tie as tie
 
 returns : tie.Need-returns
-unfolding ticksPerStep
+unfolding ticks_per_step
 returns c = sym (get_or-eq_default table 0 c.if1.true)
 
 mul-result : tie.Need-overflow-mul-result
@@ -17,7 +17,7 @@ array-read-result : tie.Need-array-read-result
 array-read-result c = search rules
 
 returns-2 : tie.Need-returns-2
-unfolding ticksPerStep
+unfolding ticks_per_step
 returns-2 c = search tests
 
 pub ticks-spec : {M : Type 1} → statement M

@@ -4,12 +4,12 @@ use borrow.Author.Rules.{rules}
 use lib.Seq.{length-take-le}
 use Rattle.words.proofs.Laws.{tests}
 use Rattle.line.specs.Reading.{bare}
-use Rattle.line.proofs.Reading.{bare-none}
+use Rattle.line.proofs.Reading.{bare_none}
 use Rattle.line.proofs.bare.Statement.{statement}
 use Rattle.line.proofs.bare.Tie as tie
 
 returns : tie.Need-returns
-returns c = sym (bare-none _ (search rules))
+returns c = sym (bare_none _ (search rules))
 
 sub-last : tie.Need-overflow-sub-last
 sub-last c = search rules

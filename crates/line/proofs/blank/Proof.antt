@@ -5,7 +5,7 @@ use borrow.Author.Rules.{rules}
 use borrow.Author.Tests.{not-true, not-false}
 use lib.ListN.{length, drop, drop_of_length-le}
 use Rattle.line.specs.Reading.{blank}
-use Rattle.line.proofs.Reading.{blank-drop}
+use Rattle.line.proofs.Reading.{blank_drop}
 use Rattle.line.proofs.blank.Statement.{statement}
 use Rattle.line.proofs.blank.Tie as tie
 
@@ -27,7 +27,7 @@ gap-requires c κs = search rules
 returns : tie.Need-returns invariant-loop decreases-loop
 returns c =
     let loop = c.before.before.before.before.loop in
-    rw (← loop.invariant.1, blank-drop c.before.before.before.before.before.before.args.text.now loop.i (search rules), ← c.before.gap.ensures, not-true c.before.gap.result c.if1.true)
+    rw (← loop.invariant.1, blank_drop c.before.before.before.before.before.before.args.text.now loop.i (search rules), ← c.before.gap.ensures, not-true c.before.gap.result c.if1.true)
 
 add-i : tie.Need-overflow-add-i invariant-loop decreases-loop
 add-i c = search rules
@@ -38,7 +38,7 @@ loop-less c = search rules
 loop-again : tie.Need-loop-preserved invariant-loop decreases-loop
 loop-again c =
     let loop = c.before.before.before.before.loop in
-    (search rules, rw (← loop.invariant.1, blank-drop c.before.before.before.before.before.before.args.text.now loop.i (search rules), ← c.before.gap.ensures, not-false c.before.gap.result c.if1.false))
+    (search rules, rw (← loop.invariant.1, blank_drop c.before.before.before.before.before.before.args.text.now loop.i (search rules), ← c.before.gap.ensures, not-false c.before.gap.result c.if1.false))
 
 returns-2 : tie.Need-returns-2 invariant-loop decreases-loop
 unfolding blank

@@ -1,7 +1,7 @@
 -- `counted` meets its contract: a number that reads is within its range, and any other line does not read.
 use borrow.Author.Rules.{rules}
 use Rattle.line.specs.Reading.{numbered, counted}
-use Rattle.line.proofs.Reading.{letter-within}
+use Rattle.line.proofs.Reading.{letter_within}
 use Rattle.line.proofs.counted.Statement.{statement}
 use Rattle.line.proofs.counted.Tie as tie
 
@@ -24,7 +24,7 @@ returns c = rw (← c.before.before.before.limit.ensures, ← c.before.before.de
 numbered-requires : tie.Need-numbered-requires
 numbered-requires c κs =
     let read = c.before.before.before in
-    letter-within _ _ _ _ _ read.before.limit.ensures read.decimal.ensures c.before.number.given.1
+    letter_within _ _ _ _ _ read.before.limit.ensures read.decimal.ensures c.before.number.given.1
 
 returns-2 : tie.Need-returns-2
 unfolding counted

@@ -3,7 +3,7 @@ use Prim.Native.Nat.{◌<◌}
 use native.Mathlib.Omega.{arith}
 use borrow.Author.Rules.{rules}
 use Rattle.words.proofs.Laws.{tests}
-use Rattle.line.specs.Reading.{digitOf}
+use Rattle.line.specs.Reading.{digit_of}
 use Rattle.line.proofs.digit.Statement.{statement}
 use Rattle.line.proofs.digit.Tie as tie
 
@@ -14,34 +14,34 @@ add-result-2 : tie.Need-overflow-add-result-2
 add-result-2 c = search rules
 
 returns : tie.Need-returns
-unfolding digitOf
+unfolding digit_of
 returns c = search tests
 
 returns-2 : tie.Need-returns-2
-unfolding digitOf
+unfolding digit_of
 returns-2 c = search tests
 
 returns-3 : tie.Need-returns-3
-unfolding digitOf
+unfolding digit_of
 returns-3 c = search tests
 
 returns-4 : tie.Need-returns-4
-unfolding digitOf
+unfolding digit_of
 returns-4 c =
     let upper : c.before.args.byte < 0x41 = omega arith in
     let lower : c.before.args.byte < 0x61 = omega arith in
     search tests
 
 returns-5 : tie.Need-returns-5
-unfolding digitOf
+unfolding digit_of
 returns-5 c = let lower : c.before.before.before.args.byte < 0x61 = omega arith in search tests
 
 returns-6 : tie.Need-returns-6
-unfolding digitOf
+unfolding digit_of
 returns-6 c = search tests
 
 returns-7 : tie.Need-returns-7
-unfolding digitOf
+unfolding digit_of
 returns-7 c = search tests
 
 pub digit-spec : {M : Type 1} → statement M

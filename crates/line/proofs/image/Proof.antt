@@ -3,7 +3,7 @@ use mathlib.Core.Path.{refl, sym, ◌∙◌}
 use borrow.Author.Rules.{rules}
 use borrow.Author.Tests.{not-false}
 use Rattle.line.specs.Reading.{image_of, bytes_of, laid}
-use Rattle.line.proofs.Reading.{hex-reads}
+use Rattle.line.proofs.Reading.{hex_reads}
 use Rattle.line.proofs.image.Statement.{statement}
 use Rattle.line.proofs.image.Tie as tie
 
@@ -15,7 +15,7 @@ unfolding image_of bytes_of laid
 returns c = record { answered = rw (← c.before.hex.ensures, c.if1.true); bytes = refl }
 
 lay-requires : tie.Need-lay-requires
-lay-requires c κs = hex-reads _ _ (sym c.before.before.hex.ensures ∙ not-false _ c.before.if1.false)
+lay-requires c κs = hex_reads _ _ (sym c.before.before.hex.ensures ∙ not-false _ c.before.if1.false)
 
 same_length : tie.Need-same-length
 same_length c = search rules

@@ -6,13 +6,13 @@ use mathlib.Core.List.{◌++◌}
 use borrow.Author.Rules.{rules}
 use lib.ListN.{length, take, drop, length-set}
 use lib.Seq.{take-length}
-use Rattle.line.specs.Reading.{hexOf, laid}
-use Rattle.line.proofs.Reading.{hex-length, lay-one, pair_fits}
+use Rattle.line.specs.Reading.{hex_of, laid}
+use Rattle.line.proofs.Reading.{hex_length, lay_one, pair_fits}
 use Rattle.line.proofs.lay.Statement.{statement}
 use Rattle.line.proofs.lay.Tie as tie
 
 abbrev invariant-loop : tie.invariant-loop
-invariant-loop text bytes₀ count i₀ bytes i = (i ≤ length text / 2) × ((bytes ≡ take i (hexOf text) ++ drop i bytes₀) × (length bytes ≡ length bytes₀))
+invariant-loop text bytes₀ count i₀ bytes i = (i ≤ length text / 2) × ((bytes ≡ take i (hex_of text) ++ drop i bytes₀) × (length bytes ≡ length bytes₀))
 
 abbrev decreases-loop : tie.decreases-loop
 decreases-loop text bytes₀ count i₀ bytes i = length text / 2 - i
@@ -66,7 +66,7 @@ loop-again : tie.Need-loop-preserved invariant-loop decreases-loop
 loop-again c =
     let loop = c.before.before.before.before.before.loop in
     let args = c.before.before.before.before.before.before.before.before.args in
-    (search rules, (rw (loop.invariant.1.0, c.before.before.digit.ensures, c.digit2.ensures) (lay-one args.text.now args.bytes.now loop.i (search rules) (search rules)), simp length-set (search rules)))
+    (search rules, (rw (loop.invariant.1.0, c.before.before.digit.ensures, c.digit2.ensures) (lay_one args.text.now args.bytes.now loop.i (search rules) (search rules)), simp length-set (search rules)))
 
 same_length : tie.Need-same-length invariant-loop decreases-loop
 same_length c = search rules
@@ -75,7 +75,7 @@ returns : tie.Need-returns invariant-loop decreases-loop
 unfolding laid
 returns c =
     let all : c.before.loop.i ≡ length c.before.before.before.before.args.text.now / 2 = omega arith in
-    rw (c.before.loop.invariant.1.0, all, ← hex-length, take-length)
+    rw (c.before.loop.invariant.1.0, all, ← hex_length, take-length)
 
 pub lay-spec : {M : Type 1} → statement M
 lay-spec =

@@ -1,19 +1,19 @@
 -- `limit` meets its contract.
 use Rattle.words.proofs.Laws.{tests}
-use Rattle.line.specs.Reading.{limitOf}
+use Rattle.line.specs.Reading.{limit_of}
 use Rattle.line.proofs.limit.Statement.{statement}
 use Rattle.line.proofs.limit.Tie as tie
 
 returns : tie.Need-returns
-unfolding limitOf
+unfolding limit_of
 returns c = rw c.match.keys1
 
 returns-2 : tie.Need-returns-2
-unfolding limitOf
+unfolding limit_of
 returns-2 c = rw c.match.keys2
 
 returns-3 : tie.Need-returns-3
-unfolding limitOf
+unfolding limit_of
 returns-3 c = search tests
 
 pub limit-spec : {M : Type 1} → statement M

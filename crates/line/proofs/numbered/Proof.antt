@@ -1,20 +1,20 @@
 -- `numbered` meets its contract: a number within its range fits what the line holds it in.
 use native.Mathlib.Omega.{arith}
 use Rattle.words.proofs.Laws.{tests}
-use Rattle.line.specs.Reading.{limitOf, numbered}
+use Rattle.line.specs.Reading.{limit_of, numbered}
 use Rattle.line.proofs.numbered.Statement.{statement}
 use Rattle.line.proofs.numbered.Tie as tie
 
 cast-t4 : tie.Need-overflow-cast-t4
-unfolding limitOf
+unfolding limit_of
 cast-t4 c = omega (arith, rw c.match.keys1 at c.before.requires)
 
 cast-t5 : tie.Need-overflow-cast-t5
-unfolding limitOf
+unfolding limit_of
 cast-t5 c = omega (arith, rw c.match.keys2 at c.before.requires)
 
 cast-t6 : tie.Need-overflow-cast-t6
-unfolding limitOf
+unfolding limit_of
 cast-t6 c = omega (arith, rw c.match.keys3 at c.before.requires)
 
 returns : tie.Need-returns

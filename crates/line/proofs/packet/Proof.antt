@@ -3,8 +3,8 @@ use mathlib.Core.Path.{refl, sym, ◌∙◌}
 use borrow.Author.Rules.{rules}
 use borrow.Author.Tests.{not-false}
 use Rattle.words.proofs.Laws.{tests}
-use Rattle.line.specs.Reading.{packetOf, bytes_of, laid}
-use Rattle.line.proofs.Reading.{hex-reads, dash-none}
+use Rattle.line.specs.Reading.{packet_of, bytes_of, laid}
+use Rattle.line.proofs.Reading.{hex_reads, dash_none}
 use Rattle.line.proofs.packet.Statement.{statement}
 use Rattle.line.proofs.packet.Tie as tie
 
@@ -12,20 +12,20 @@ dash-requires : tie.Need-dash-requires
 dash-requires c κs = search rules
 
 returns : tie.Need-returns
-unfolding packetOf bytes_of laid
+unfolding packet_of bytes_of laid
 returns c =
-    let none = dash-none _ (sym c.before.dash.ensures ∙ c.if1.true) in
+    let none = dash_none _ (sym c.before.dash.ensures ∙ c.if1.true) in
     record { answered = rw (← c.before.dash.ensures, c.if1.true); bytes = rw none }
 
 hex-requires : tie.Need-hex-requires
 hex-requires c κs = search rules
 
 returns-2 : tie.Need-returns-2
-unfolding packetOf bytes_of laid
+unfolding packet_of bytes_of laid
 returns-2 c = record { answered = rw (← c.before.before.before.dash.ensures, c.before.before.if1.false, ← c.before.hex.ensures, c.if2.true); bytes = refl }
 
 returns-3 : tie.Need-returns-3
-unfolding packetOf bytes_of laid
+unfolding packet_of bytes_of laid
 returns-3 c =
     let read = c.before in
     record {
@@ -34,13 +34,13 @@ returns-3 c =
     }
 
 lay-requires : tie.Need-lay-requires
-lay-requires c κs = hex-reads _ _ (sym c.before.before.before.hex.ensures ∙ not-false _ c.before.before.if2.false)
+lay-requires c κs = hex_reads _ _ (sym c.before.before.before.hex.ensures ∙ not-false _ c.before.before.if2.false)
 
 same_length : tie.Need-same-length
 same_length c = search rules
 
 returns-4 : tie.Need-returns-4
-unfolding packetOf bytes_of
+unfolding packet_of bytes_of
 returns-4 c =
     let read = c.before.before.before.before.before in
     record {

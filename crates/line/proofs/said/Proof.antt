@@ -3,7 +3,7 @@ use mathlib.Core.Path.{refl, sym, ◌∙◌}
 use borrow.Author.Rules.{rules}
 use Rattle.words.proofs.Laws.{tests}
 use Rattle.line.specs.Reading.{said, bytes_of, laid}
-use Rattle.line.proofs.Reading.{not-blank, alone-bytes, no_bytes, behind}
+use Rattle.line.proofs.Reading.{not_blank, alone_bytes, no_bytes, behind}
 use Rattle.line.proofs.said.Statement.{statement}
 use Rattle.line.proofs.said.Tie as tie
 
@@ -15,7 +15,7 @@ unfolding said bytes_of laid
 returns c = record { answered = rw (← c.before.blank.ensures, c.if1.true); bytes = refl }
 
 shared-slice-read-letter : tie.Need-shared-slice-read-letter
-shared-slice-read-letter c = not-blank _ (sym c.before.before.blank.ensures ∙ c.before.if1.false)
+shared-slice-read-letter c = not_blank _ (sym c.before.before.blank.ensures ∙ c.before.if1.false)
 
 returns-2 : tie.Need-returns-2
 unfolding said bytes_of laid
@@ -32,7 +32,7 @@ returns-3 c =
     let tested = c.before.before.before.before in
     record {
       answered = rw (← tested.before.blank.ensures, tested.if1.false) (search (tests, c.alone.ensures));
-      bytes = no_bytes _ _ _ (rw c.alone.ensures (alone-bytes _ _));
+      bytes = no_bytes _ _ _ (rw c.alone.ensures (alone_bytes _ _));
     }
 
 shared-slice-read-space : tie.Need-shared-slice-read-space

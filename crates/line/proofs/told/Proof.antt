@@ -2,7 +2,7 @@
 use borrow.Author.Rules.{rules}
 use Rattle.words.proofs.Laws.{tests}
 use Rattle.line.specs.Reading.{told}
-use Rattle.line.proofs.Reading.{counted-bytes, no_bytes}
+use Rattle.line.proofs.Reading.{counted_bytes, no_bytes}
 use Rattle.line.proofs.told.Statement.{statement}
 use Rattle.line.proofs.told.Tie as tie
 
@@ -31,7 +31,7 @@ returns-2 c = rw c.before.before.before.before.match.keys2 c.before.before.packe
 
 returns-3 : tie.Need-returns-3
 unfolding told
-returns-3 c = record { answered = search (tests, c.counted.ensures); bytes = no_bytes _ _ _ (rw c.counted.ensures (counted-bytes _ _ _)) }
+returns-3 c = record { answered = search (tests, c.counted.ensures); bytes = no_bytes _ _ _ (rw c.counted.ensures (counted_bytes _ _ _)) }
 
 pub told-spec : {M : Type 1} → statement M
 told-spec =

@@ -5,7 +5,7 @@ use borrow.Author.Rules.{rules}
 use lib.ListN.{length, drop, drop_of_length-le}
 use Rattle.words.proofs.Laws.{tests}
 use Rattle.line.specs.Reading.{value, within}
-use Rattle.line.proofs.Reading.{value-drop, value-past}
+use Rattle.line.proofs.Reading.{value_drop, value_past}
 use Rattle.line.proofs.value.Statement.{statement}
 use Rattle.line.proofs.value.Tie as tie
 
@@ -37,7 +37,7 @@ returns : tie.Need-returns invariant-loop decreases-loop
 returns c =
     let loop = c.before.before.before.before.loop in
     let text = c.before.before.before.before.before.before.args.text.now in
-    rw (← loop.invariant.1.1, value-drop loop.value text loop.i (search rules), ← c.before.digit.ensures) (sym (value-past _ _ _ (search rules)))
+    rw (← loop.invariant.1.1, value_drop loop.value text loop.i (search rules), ← c.before.digit.ensures) (sym (value_past _ _ _ (search rules)))
 
 add-i : tie.Need-overflow-add-i invariant-loop decreases-loop
 add-i c = search rules
@@ -49,7 +49,7 @@ loop-again : tie.Need-loop-preserved invariant-loop decreases-loop
 loop-again c =
     let loop = c.before.before.before.before.loop in
     let text = c.before.before.before.before.before.before.args.text.now in
-    (search rules, (search rules, rw (← loop.invariant.1.1, value-drop loop.value text loop.i (search rules), ← c.before.digit.ensures)))
+    (search rules, (search rules, rw (← loop.invariant.1.1, value_drop loop.value text loop.i (search rules), ← c.before.digit.ensures)))
 
 cast-n : tie.Need-overflow-cast-n invariant-loop decreases-loop
 cast-n c = search rules

@@ -1,6 +1,6 @@
 use borrow.Author.Rules.{rules}
 use native.Mathlib.Omega.{arith}
-use Rattle.moves.proofs.Laws.{moves-beat, moves-between, moves_not}
+use Rattle.moves.proofs.Laws.{moves_beat, moves_between, moves_not}
 use Rattle.moves.proofs.move_on.Statement.{statement}
 use Rattle.moves.proofs.move_on.Tie as tie
 
@@ -23,7 +23,7 @@ keep-dimmer-requires : tie.Need-keep-dimmer-requires
 keep-dimmer-requires c κs = search rules
 
 returns-2 : tie.Need-returns-2
-returns-2 c = moves-beat _ _ _ _ _ _ c.before.before.before.before.dimmer-of.ensures c.before.before.before.tick.ensures c.keep-dimmer.ensures
+returns-2 c = moves_beat _ _ _ _ _ _ c.before.before.before.before.dimmer-of.ensures c.before.before.before.tick.ensures c.keep-dimmer.ensures
 
 run-requires : tie.Need-run-requires
 run-requires c κs = search rules
@@ -32,7 +32,7 @@ keep-left-requires : tie.Need-keep-left-requires
 keep-left-requires c κs = search rules
 
 returns-3 : tie.Need-returns-3
-returns-3 c = moves-between _ _ _ _ _ _ c.before.before.before.before.before.before.before.idle.ensures c.before.before.before.before.before.before.if1.false c.before.before.before.before.left_in.ensures (omega arith) c.before.before.run.ensures c.keep_left.ensures
+returns-3 c = moves_between _ _ _ _ _ _ c.before.before.before.before.before.before.before.idle.ensures c.before.before.before.before.before.before.if1.false c.before.before.before.before.left_in.ensures (omega arith) c.before.before.run.ensures c.keep_left.ensures
 
 pub move-on-spec : {M : Type 1} → statement M
 move-on-spec =

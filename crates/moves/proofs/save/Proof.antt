@@ -1,5 +1,5 @@
 use native.Mathlib.Omega.{arith}
-use Rattle.moves.proofs.Laws.{saves-not, saves-due}
+use Rattle.moves.proofs.Laws.{saves_not, saves_due}
 use borrow.Author.Rules.{rules}
 use Rattle.moves.proofs.save.Statement.{statement}
 use Rattle.moves.proofs.save.Tie as tie
@@ -14,7 +14,7 @@ keep-save-requires : tie.Need-keep-save-requires
 keep-save-requires c κs = search rules
 
 returns : tie.Need-returns
-returns c = saves-not _ _ _ _ _ _ c.before.before.before.before.save-in.ensures c.before.before.before.next-save.ensures c.before.keep-save.ensures (omega arith)
+returns c = saves_not _ _ _ _ _ _ c.before.before.before.before.save-in.ensures c.before.before.before.next-save.ensures c.before.keep-save.ensures (omega arith)
 
 level-in-requires : tie.Need-level-in-requires
 level-in-requires c κs = search rules
@@ -30,7 +30,7 @@ apply-requires c κs = search rules
 
 returns-2 : tie.Need-returns-2
 returns-2 c =
-    saves-due _ _ _ _ _ _ _ _ _ c.before.before.before.before.before.before.before.before.before.save-in.ensures c.before.before.before.before.before.before.before.before.next-save.ensures c.before.before.before.before.before.before.keep-save.ensures (omega arith) c.before.before.before.before.level_in.ensures c.before.before.before.percent.ensures c.apply.ensures
+    saves_due _ _ _ _ _ _ _ _ _ c.before.before.before.before.before.before.before.before.before.save-in.ensures c.before.before.before.before.before.before.before.before.next-save.ensures c.before.before.before.before.before.before.keep-save.ensures (omega arith) c.before.before.before.before.level_in.ensures c.before.before.before.percent.ensures c.apply.ensures
 
 pub save-spec : {M : Type 1} → statement M
 save-spec =

@@ -1,4 +1,4 @@
-use Rattle.obey.proofs.Laws.{ready-entered}
+use Rattle.obey.proofs.Laws.{ready_entered}
 use borrow.Author.Rules.{rules}
 use Rattle.obey.proofs.enter.Statement.{statement}
 use Rattle.obey.proofs.enter.Tie as tie
@@ -24,7 +24,7 @@ returns c =
     let lamp = entered.before in
     let mode = lamp.before.before.before in
     let sized = mode.before.before in
-    ready-entered _ _ _ _ _ _ _ _ sized.sized.ensures mode.keep-mode.ensures lamp.lamp-of.ensures entered.entered.ensures c.keep-lamp.ensures
+    ready_entered _ _ _ _ _ _ _ _ sized.sized.ensures mode.keep-mode.ensures lamp.lamp-of.ensures entered.entered.ensures c.keep-lamp.ensures
 
 pub enter_spec : {M : Type 1} → statement M
 enter_spec =

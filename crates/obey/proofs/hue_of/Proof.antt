@@ -1,14 +1,14 @@
 use Rattle.words.proofs.Laws.{tests}
-use Rattle.obey.specs.Code.{hueBy}
+use Rattle.obey.specs.Code.{hue_by}
 use Rattle.obey.proofs.hue_of.Statement.{statement}
 use Rattle.obey.proofs.hue_of.Tie as tie
 
 returns : tie.Need-returns
-unfolding hueBy
+unfolding hue_by
 returns c = search tests
 
 returns-2 : tie.Need-returns-2
-unfolding hueBy
+unfolding hue_by
 returns-2 c = search tests
 
 pub hue-of-spec : {M : Type 1} → statement M

@@ -1,4 +1,4 @@
-use Rattle.obey.proofs.Laws.{sets-both}
+use Rattle.obey.proofs.Laws.{sets_both}
 use borrow.Author.Rules.{rules}
 use Rattle.obey.proofs.set.Statement.{statement}
 use Rattle.obey.proofs.set.Tie as tie
@@ -19,7 +19,7 @@ returns : tie.Need-returns
 returns c =
     let apply = c.before.before in
     let password = apply.before.before in
-    sets-both _ _ _ _ _ _ _ _ password.before.password-of.ensures password.password.ensures apply.apply.ensures c.keep-password.ensures
+    sets_both _ _ _ _ _ _ _ _ password.before.password-of.ensures password.password.ensures apply.apply.ensures c.keep-password.ensures
 
 pub set_spec : {M : Type 1} → statement M
 set_spec =

@@ -1,9 +1,9 @@
 -- `size` meets its contract: each arm is the length of its message with the bytes around it.
 use mathlib.Core.Path.{sym}
 use borrow.Author.Rules.{rules}
-use Rattle.packet.proofs.Laws.{packed-length}
+use Rattle.packet.proofs.Laws.{packed_length}
 use Rattle.post.specs.Post.{bytes_of, enveloped}
-use Rattle.post.specs.Code.{sentOf, front}
+use Rattle.post.specs.Code.{sent_of, front}
 use Rattle.outbox.proofs.size.Statement.{statement}
 use Rattle.outbox.proofs.size.Tie as tie
 
@@ -29,20 +29,20 @@ add-result-3 : tie.Need-overflow-add-result-3
 add-result-3 c = search rules
 
 returns : tie.Need-returns
-unfolding sentOf bytes_of enveloped front
+unfolding sent_of bytes_of enveloped front
 returns c = rw c.enum_told.given.1
 
 returns-2 : tie.Need-returns-2
-unfolding sentOf bytes_of enveloped front
-returns-2 c = rw c.enum-told2.given.1 (sym (packed-length _ _))
+unfolding sent_of bytes_of enveloped front
+returns-2 c = rw c.enum-told2.given.1 (sym (packed_length _ _))
 
 returns-3 : tie.Need-returns-3
-unfolding sentOf bytes_of enveloped front
-returns-3 c = rw c.enum-told3.given.1 (sym (packed-length _ _))
+unfolding sent_of bytes_of enveloped front
+returns-3 c = rw c.enum-told3.given.1 (sym (packed_length _ _))
 
 returns-4 : tie.Need-returns-4
-unfolding sentOf bytes_of enveloped front
-returns-4 c = rw c.enum-told4.given.1 (sym (packed-length _ _))
+unfolding sent_of bytes_of enveloped front
+returns-4 c = rw c.enum-told4.given.1 (sym (packed_length _ _))
 
 pub size-spec : {M : Type 1} → statement M
 size-spec =

@@ -2,12 +2,12 @@
 use Prim.Native.Nat.{◌/◌}
 use lib.Bits.{and_mask}
 use lib.Dec.{eqb}
-use Rattle.packet.specs.Layout.{headerIn}
+use Rattle.packet.specs.Layout.{header_in}
 use Rattle.packet.proofs.fields.Statement.{statement}
 use Rattle.packet.proofs.fields.Tie as tie
 
 returns : tie.Need-returns
-unfolding headerIn
+unfolding header_in
 returns c =
     let a = c.args in
     λ i. record {

@@ -6,7 +6,7 @@ use mathlib.Core.Path.{◌≡◌, sym, ap}
 use lib.ListN.{length, take, drop}
 use borrow.Author.Tests.{le-ltb}
 use Rattle.words.proofs.Laws.{tests}
-use Rattle.packet.proofs.Laws.{not-read, from-refused}
+use Rattle.packet.proofs.Laws.{not_read, from_refused}
 use Rattle.packet.proofs.message.Statement.{statement}
 use Rattle.packet.proofs.message.Tie as tie
 
@@ -19,7 +19,7 @@ slice-aggregate-result c = search rules
 returns : tie.Need-returns
 returns c =
     let a = c.before.before.args in
-    sym (from-refused a.frame a.packet.now (not-read a.frame c.before.match.keys2))
+    sym (from_refused a.frame a.packet.now (not_read a.frame c.before.match.keys2))
 
 slice-aggregate-result-2 : tie.Need-slice-aggregate-result-2
 slice-aggregate-result-2 c = search rules

@@ -1,12 +1,12 @@
 -- `reserved` meets its contract: a shift and a mask take out bit 7.
 use Prim.Native.Nat.{◌/◌}
 use lib.Bits.{and_mask}
-use Rattle.packet.specs.Layout.{reservedIn}
+use Rattle.packet.specs.Layout.{reserved_in}
 use Rattle.packet.proofs.reserved.Statement.{statement}
 use Rattle.packet.proofs.reserved.Tie as tie
 
 returns : tie.Need-returns
-unfolding reservedIn
+unfolding reserved_in
 returns c = and_mask (c.args.second / 128) 1
 
 pub reserved-spec : {M : Type 1} → statement M

@@ -5,7 +5,7 @@ use native.Mathlib.Omega.{arith}
 use borrow.Author.Rules.{rules}
 use lib.ListN.{length, drop, drop_of_length-le}
 use Rattle.packet.specs.Layout.{total}
-use Rattle.packet.proofs.Steps.{total-drop}
+use Rattle.packet.proofs.Steps.{total_drop}
 use Rattle.packet.proofs.sum.Statement.{statement}
 use Rattle.packet.proofs.sum.Tie as tie
 
@@ -36,7 +36,7 @@ loop-less c = search rules
 loop-again : tie.Need-loop-preserved invariant-loop decreases-loop
 loop-again c =
     let bytes = c.before.before.before.args.bytes.now in
-    (search rules, (search rules, omega (arith, total-drop bytes c.before.before.loop.i (search rules))))
+    (search rules, (search rules, omega (arith, total_drop bytes c.before.before.loop.i (search rules))))
 
 cast-result : tie.Need-overflow-cast-result invariant-loop decreases-loop
 cast-result c = search rules

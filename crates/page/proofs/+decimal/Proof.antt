@@ -1,7 +1,7 @@
 -- `decimal` meets its contract. The measure is the number: a tenth of it is less.
 use borrow.Author.Rules.{rules}
 use native.Mathlib.Omega.{arith}
-use Rattle.page.proofs.Laws.{wrote_one, wrote-more}
+use Rattle.page.proofs.Laws.{wrote_one, wrote_more}
 use Prim.Native.Nat.{ℕ, ◌<◌}
 use borrow.Fn.Kinds.{In}
 use borrow.Fn.PlainCycle.{Measures, is, falls, and}
@@ -15,119 +15,119 @@ use Rattle.page.proofs.+decimal.Tie.{close}
 abbrev μ-decimal : Measures 1 decimal-kinds.ps ℕ
 μ-decimal κs a = a.1.1.0
 
-abbrev decimal-at : ℕ → In 1 decimal-kinds.ps
-decimal-at t = and 1 decimal-kinds.ps (is 1 decimal-kinds.ps μ-decimal t) decimal.Pre
+abbrev decimal_at : ℕ → In 1 decimal-kinds.ps
+decimal_at t = and 1 decimal-kinds.ps (is 1 decimal-kinds.ps μ-decimal t) decimal.Pre
 
-abbrev decimal-below : ℕ → In 1 decimal-kinds.ps
-decimal-below t = and 1 decimal-kinds.ps (falls 1 decimal-kinds.ps ◌<◌ μ-decimal t) decimal.Pre
+abbrev decimal_below : ℕ → In 1 decimal-kinds.ps
+decimal_below t = and 1 decimal-kinds.ps (falls 1 decimal-kinds.ps ◌<◌ μ-decimal t) decimal.Pre
 
-decimal-cast-put : (t : ℕ) → decimal-lts.Need-overflow-cast-put (
+decimal_cast_put : (t : ℕ) → decimal-lts.Need-overflow-cast-put (
   put_reads.Asked,
   put_reads.Learnt,
-  decimal-below t,
+  decimal_below t,
   decimal.Post,
-) (decimal-at t) decimal.Post
-decimal-cast-put t c = search rules
+) (decimal_at t) decimal.Post
+decimal_cast_put t c = search rules
 
-decimal-add-put : (t : ℕ) → decimal-lts.Need-overflow-add-put (
+decimal_add_put : (t : ℕ) → decimal-lts.Need-overflow-add-put (
   put_reads.Asked,
   put_reads.Learnt,
-  decimal-below t,
+  decimal_below t,
   decimal.Post,
-) (decimal-at t) decimal.Post
-decimal-add-put t c = search rules
+) (decimal_at t) decimal.Post
+decimal_add_put t c = search rules
 
-decimal-put-requires : (t : ℕ) → decimal-lts.Need-put-requires (
+decimal_put_requires : (t : ℕ) → decimal-lts.Need-put-requires (
   put_reads.Asked,
   put_reads.Learnt,
-  decimal-below t,
+  decimal_below t,
   decimal.Post,
-) (decimal-at t) decimal.Post
-decimal-put-requires t c κs = search rules
+) (decimal_at t) decimal.Post
+decimal_put_requires t c κs = search rules
 
-decimal-same-length : (t : ℕ) → decimal-lts.Need-same-length (
+decimal_same_length : (t : ℕ) → decimal-lts.Need-same-length (
   put_reads.Asked,
   put_reads.Learnt,
-  decimal-below t,
+  decimal_below t,
   decimal.Post,
-) (decimal-at t) decimal.Post
-decimal-same-length t c = search rules
+) (decimal_at t) decimal.Post
+decimal_same_length t c = search rules
 
-decimal-returns : (t : ℕ) → decimal-lts.Need-returns (
+decimal_returns : (t : ℕ) → decimal-lts.Need-returns (
   put_reads.Asked,
   put_reads.Learnt,
-  decimal-below t,
+  decimal_below t,
   decimal.Post,
-) (decimal-at t) decimal.Post
-decimal-returns t c = wrote_one _ _ _ (search rules) c.before.before.put.ensures
+) (decimal_at t) decimal.Post
+decimal_returns t c = wrote_one _ _ _ (search rules) c.before.before.put.ensures
 
-decimal-decimal-requires : (t : ℕ) → decimal-lts.Need-decimal-requires (
+decimal_decimal_requires : (t : ℕ) → decimal-lts.Need-decimal-requires (
   put_reads.Asked,
   put_reads.Learnt,
-  decimal-below t,
+  decimal_below t,
   decimal.Post,
-) (decimal-at t) decimal.Post
-decimal-decimal-requires t c κs = (omega arith, tt)
+) (decimal_at t) decimal.Post
+decimal_decimal_requires t c κs = (omega arith, tt)
 
-decimal-cast-put-2 : (t : ℕ) → decimal-lts.Need-overflow-cast-put-2 (
+decimal_cast_put_2 : (t : ℕ) → decimal-lts.Need-overflow-cast-put-2 (
   put_reads.Asked,
   put_reads.Learnt,
-  decimal-below t,
+  decimal_below t,
   decimal.Post,
-) (decimal-at t) decimal.Post
-decimal-cast-put-2 t c = search rules
+) (decimal_at t) decimal.Post
+decimal_cast_put_2 t c = search rules
 
-decimal-add-put-2 : (t : ℕ) → decimal-lts.Need-overflow-add-put-2 (
+decimal_add_put_2 : (t : ℕ) → decimal-lts.Need-overflow-add-put-2 (
   put_reads.Asked,
   put_reads.Learnt,
-  decimal-below t,
+  decimal_below t,
   decimal.Post,
-) (decimal-at t) decimal.Post
-decimal-add-put-2 t c = search rules
+) (decimal_at t) decimal.Post
+decimal_add_put_2 t c = search rules
 
-decimal-put-requires-2 : (t : ℕ) → decimal-lts.Need-put-requires-2 (
+decimal_put_requires_2 : (t : ℕ) → decimal-lts.Need-put-requires-2 (
   put_reads.Asked,
   put_reads.Learnt,
-  decimal-below t,
+  decimal_below t,
   decimal.Post,
-) (decimal-at t) decimal.Post
-decimal-put-requires-2 t c κs = search rules
+) (decimal_at t) decimal.Post
+decimal_put_requires_2 t c κs = search rules
 
-decimal-same-length-2 : (t : ℕ) → decimal-lts.Need-same-length-2 (
+decimal_same_length_2 : (t : ℕ) → decimal-lts.Need-same-length-2 (
   put_reads.Asked,
   put_reads.Learnt,
-  decimal-below t,
+  decimal_below t,
   decimal.Post,
-) (decimal-at t) decimal.Post
-decimal-same-length-2 t c = search rules
+) (decimal_at t) decimal.Post
+decimal_same_length_2 t c = search rules
 
-decimal-returns-2 : (t : ℕ) → decimal-lts.Need-returns-2 (
+decimal_returns_2 : (t : ℕ) → decimal-lts.Need-returns-2 (
   put_reads.Asked,
   put_reads.Learnt,
-  decimal-below t,
+  decimal_below t,
   decimal.Post,
-) (decimal-at t) decimal.Post
-decimal-returns-2 t c =
+) (decimal_at t) decimal.Post
+decimal_returns_2 t c =
     let last = c.before.before in
-    wrote-more _ _ _ _ (search rules) last.before.before.before.before.decimal.ensures last.put2.ensures
+    wrote_more _ _ _ _ (search rules) last.before.before.before.before.decimal.ensures last.put2.ensures
 
 pub +decimal-spec : {M : Type 1} → statement M
 +decimal-spec = close μ-decimal λ t. decimal-lts.spec (
   put_reads.Asked,
   put_reads.Learnt,
-  decimal-below t,
+  decimal_below t,
   decimal.Post,
 )
-    (decimal-at t)
+    (decimal_at t)
     decimal.Post
-    (decimal-cast-put t)
-    (decimal-add-put t)
-    (decimal-put-requires t)
-    (decimal-same-length t)
-    (decimal-returns t)
-    (decimal-decimal-requires t)
-    (decimal-cast-put-2 t)
-    (decimal-add-put-2 t)
-    (decimal-put-requires-2 t)
-    (decimal-same-length-2 t)
-    (decimal-returns-2 t)
+    (decimal_cast_put t)
+    (decimal_add_put t)
+    (decimal_put_requires t)
+    (decimal_same_length t)
+    (decimal_returns t)
+    (decimal_decimal_requires t)
+    (decimal_cast_put_2 t)
+    (decimal_add_put_2 t)
+    (decimal_put_requires_2 t)
+    (decimal_same_length_2 t)
+    (decimal_returns_2 t)

@@ -4,14 +4,14 @@ use Prim.Native.Nat.{◌≤◌, ◌-◌}
 use native.Mathlib.Omega.{arith}
 use borrow.Author.Rules.{rules}
 use lib.ListN.{length, drop, drop_of_length-le}
-use Rattle.page.specs.Page.{page_of, puts, hexOf}
-use Rattle.page.proofs.Laws.{hex-next}
+use Rattle.page.specs.Page.{page_of, puts, hex_of}
+use Rattle.page.proofs.Laws.{hex_next}
 use Rattle.page.proofs.hex.Statement.{statement}
 use Rattle.page.proofs.hex.Tie as tie
 
 abbrev invariant-loop : tie.invariant-loop
 invariant-loop page₀ at bytes next₀ i₀ page next i =
-    (i ≤ length bytes) × ((puts (hexOf (drop i bytes)) (page_of page next) ≡ puts (hexOf bytes) (page_of page₀ at)) × (length page ≡ length page₀))
+    (i ≤ length bytes) × ((puts (hex_of (drop i bytes)) (page_of page next) ≡ puts (hex_of bytes) (page_of page₀ at)) × (length page ≡ length page₀))
 
 abbrev decreases-loop : tie.decreases-loop
 decreases-loop page₀ at bytes next₀ i₀ page next i = length bytes - i
@@ -45,13 +45,13 @@ loop-again c =
     let low = c.before.before in
     let high = low.before.before.before.before.before in
     let loop = high.before.before.before.before.before.loop in
-    (search rules, (hex-next _ loop.i _ _ _ _ _ (search rules) high.before.hex-digit.ensures high.put.ensures low.before.hex-digit2.ensures low.put2.ensures ∙ loop.invariant.1.0, search rules))
+    (search rules, (hex_next _ loop.i _ _ _ _ _ (search rules) high.before.hex-digit.ensures high.put.ensures low.before.hex-digit2.ensures low.put2.ensures ∙ loop.invariant.1.0, search rules))
 
 same_length : tie.Need-same-length invariant-loop decreases-loop
 same_length c = search rules
 
 returns : tie.Need-returns invariant-loop decreases-loop
-unfolding puts hexOf
+unfolding puts hex_of
 returns c =
     let bytes = c.before.before.before.before.args.bytes.now in
     rw (drop_of_length-le bytes {i = c.before.loop.i} (omega arith)) at c.before.loop.invariant.1.0

@@ -5,7 +5,7 @@ use native.Mathlib.Omega.{arith}
 use borrow.Author.Rules.{rules}
 use lib.ListN.{length, drop, drop_of_length-le}
 use Rattle.page.specs.Page.{page_of, puts}
-use Rattle.page.proofs.Laws.{text-next}
+use Rattle.page.proofs.Laws.{text_next}
 use Rattle.page.proofs.text.Statement.{statement}
 use Rattle.page.proofs.text.Tie as tie
 
@@ -35,7 +35,7 @@ loop-again : tie.Need-loop-preserved invariant-loop decreases-loop
 loop-again c =
     let put = c.before.before in
     let loop = put.before.before.before.before.loop in
-    (search rules, (text-next _ loop.i _ _ (search rules) put.put.ensures ∙ loop.invariant.1.0, search rules))
+    (search rules, (text_next _ loop.i _ _ (search rules) put.put.ensures ∙ loop.invariant.1.0, search rules))
 
 same_length : tie.Need-same-length invariant-loop decreases-loop
 same_length c = search rules

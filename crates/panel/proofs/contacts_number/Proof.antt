@@ -4,7 +4,7 @@ use Prim.Native.Nat.{◌≤◌}
 use native.Mathlib.Omega.{arith}
 use mir.Val.{bool_byte}
 use Rattle.words.specs.Words.{if◌then◌else◌}
-use Rattle.panel.specs.Panel.{contactsNumber}
+use Rattle.panel.specs.Panel.{contacts_number}
 use borrow.Author.Rules.{rules}
 use Rattle.panel.proofs.contacts_number.Statement.{statement}
 use Rattle.panel.proofs.contacts_number.Tie as tie
@@ -14,9 +14,9 @@ bit : (b : Bool) → bool_byte b ≡ (if b then 1 else 0)
 bit true = refl
 bit false = refl
 
-bit-small : (b : Bool) → bool_byte b ≤ 1
-bit-small true = omega arith
-bit-small false = omega arith
+bit_small : (b : Bool) → bool_byte b ≤ 1
+bit_small true = omega arith
+bit_small false = omega arith
 
 cast-result : tie.Need-overflow-cast-result
 cast-result c = search rules
@@ -25,13 +25,13 @@ cast-result-2 : tie.Need-overflow-cast-result-2
 cast-result-2 c = search rules
 
 mul-result : tie.Need-overflow-mul-result
-mul-result c = omega (arith, bit-small c.args.slave)
+mul-result c = omega (arith, bit_small c.args.slave)
 
 add-result : tie.Need-overflow-add-result
-add-result c = omega (arith, bit-small c.args.local, bit-small c.args.slave)
+add-result c = omega (arith, bit_small c.args.local, bit_small c.args.slave)
 
 returns : tie.Need-returns
-unfolding contactsNumber
+unfolding contacts_number
 returns c = rw (bit c.args.local, bit c.args.slave)
 
 pub contacts-number-spec : {M : Type 1} → statement M

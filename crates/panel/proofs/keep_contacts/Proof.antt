@@ -2,7 +2,7 @@ use mathlib.Core.Path.{sym}
 use lib.Seq.{set-get_or}
 use borrow.Author.Tests.{eq-eqb, ne_eqb}
 use Rattle.words.specs.Words.{kept_at}
-use Rattle.panel.specs.Panel.{keptContacts}
+use Rattle.panel.specs.Panel.{kept_contacts}
 use borrow.Author.Rules.{rules}
 use Rattle.panel.proofs.keep_contacts.Statement.{statement}
 use Rattle.panel.proofs.keep_contacts.Tie as tie
@@ -29,11 +29,11 @@ element-write-paddles : tie.Need-element-write-paddles
 element-write-paddles c = search rules
 
 returns : tie.Need-returns
-unfolding keptContacts kept_at
+unfolding kept_contacts kept_at
 returns c = rw (← c.before.before.before.local-in.ensures, ← c.before.before.slave-in.ensures, ← c.before.contacts-number.ensures, ne_eqb _ _ c.if1.true)
 
 returns-2 : tie.Need-returns-2
-unfolding keptContacts kept_at
+unfolding kept_contacts kept_at
 returns-2 c = rw (← c.before.before.before.local-in.ensures, ← c.before.before.slave-in.ensures, ← c.before.contacts-number.ensures, eq-eqb _ _ c.if1.false) (sym (set-get_or _ _ _))
 
 pub keep-contacts-spec : {M : Type 1} → statement M

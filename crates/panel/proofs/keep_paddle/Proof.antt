@@ -1,4 +1,4 @@
-use Rattle.panel.specs.Panel.{keptPaddle}
+use Rattle.panel.specs.Panel.{kept_paddle}
 use borrow.Author.Rules.{rules}
 use Rattle.panel.proofs.keep_paddle.Statement.{statement}
 use Rattle.panel.proofs.keep_paddle.Tie as tie
@@ -28,7 +28,7 @@ element-write-paddles-3 : tie.Need-element-write-paddles-3
 element-write-paddles-3 c = search rules
 
 returns : tie.Need-returns
-unfolding keptPaddle
+unfolding kept_paddle
 returns c = rw (c.keep-contacts.ensures, c.before.before.contacts-number.ensures)
 
 pub keep-paddle-spec : {M : Type 1} → statement M

@@ -2,12 +2,12 @@ use mathlib.Core.Path.{ap}
 use Prim.Native.Nat.{ℕ}
 use lib.Bits.{and_mask}
 use lib.Dec.{eqb}
-use Rattle.panel.specs.Panel.{localIn}
+use Rattle.panel.specs.Panel.{local_in}
 use Rattle.panel.proofs.local_in.Statement.{statement}
 use Rattle.panel.proofs.local_in.Tie as tie
 
 returns : tie.Need-returns
-unfolding localIn
+unfolding local_in
 returns c = ap (λ (bit : ℕ). eqb bit 1) (and_mask c.args.contacts 1)
 
 pub local-in-spec : {M : Type 1} → statement M

@@ -5,8 +5,8 @@ use lib.Dec.{eqb}
 use borrow.Author.Tests.{not-true, not-false}
 use lib.Bits.{and_mask}
 use lib.ListN.{get_or}
-use Rattle.panel.specs.Panel.{contactsIndex}
-use Rattle.panel.specs.Code.{loudAt}
+use Rattle.panel.specs.Panel.{contacts_index}
+use Rattle.panel.specs.Code.{loud_at}
 use borrow.Author.Rules.{rules}
 use Rattle.panel.proofs.loud_at.Statement.{statement}
 use Rattle.panel.proofs.loud_at.Tie as tie
@@ -36,18 +36,18 @@ element-copy-out-taps : tie.Need-element-copy-out-taps
 element-copy-out-taps c = search rules
 
 returns : tie.Need-returns
-unfolding loudAt
+unfolding loud_at
 returns c =
     let a = c.before.before.before.before.before.args in
-    let contacts = get_or a.paddles.now (contactsIndex a.i) 0 in
+    let contacts = get_or a.paddles.now (contacts_index a.i) 0 in
     let up : eqb (contacts % 4) 0 ≡ false = rw (← and_mask contacts 2) (not-true _ c.if1.true) in
     rw up
 
 returns-2 : tie.Need-returns-2
-unfolding loudAt
+unfolding loud_at
 returns-2 c =
     let a = c.before.before.before.before.before.args in
-    let contacts = get_or a.paddles.now (contactsIndex a.i) 0 in
+    let contacts = get_or a.paddles.now (contacts_index a.i) 0 in
     let up : eqb (contacts % 4) 0 ≡ true = rw (← and_mask contacts 2) (not-false _ c.if1.false) in
     rw up
 

@@ -1,4 +1,4 @@
-use Rattle.panel.specs.Panel.{paddleFrom}
+use Rattle.panel.specs.Panel.{paddle_from}
 use borrow.Author.Rules.{rules}
 use Rattle.panel.proofs.paddle_at.Statement.{statement}
 use Rattle.panel.proofs.paddle_at.Tie as tie
@@ -34,7 +34,7 @@ element-copy-out-t19 : tie.Need-element-copy-out-t19
 element-copy-out-t19 c = search rules
 
 returns : tie.Need-returns
-unfolding paddleFrom
+unfolding paddle_from
 returns c = simp (c.before.before.before.slave-in.ensures, c.before.before.before.before.local-in.ensures)
 
 pub paddle-at-spec : {M : Type 1} → statement M

@@ -1,4 +1,4 @@
-use Rattle.panel.proofs.Laws.{paddle-low, release-kept}
+use Rattle.panel.proofs.Laws.{paddle_low, release_kept}
 use borrow.Author.Rules.{rules}
 use Rattle.panel.proofs.release.Statement.{statement}
 use Rattle.panel.proofs.release.Tie as tie
@@ -7,7 +7,7 @@ paddle-of-requires : tie.Need-paddle-of-requires
 paddle-of-requires c κs = search rules
 
 paddle-at-requires : tie.Need-paddle-at-requires
-paddle-at-requires c κs = rw c.before.paddle-of.ensures (paddle-low _)
+paddle-at-requires c κs = rw c.before.paddle-of.ensures (paddle_low _)
 
 kind-of-requires : tie.Need-kind-of-requires
 kind-of-requires c κs = search rules
@@ -16,11 +16,11 @@ release-requires : tie.Need-release-requires
 release-requires c κs = search rules
 
 keep-paddle-requires : tie.Need-keep-paddle-requires
-keep-paddle-requires c κs = rw c.before.before.before.before.before.paddle-of.ensures (paddle-low _)
+keep-paddle-requires c κs = rw c.before.before.before.before.before.paddle-of.ensures (paddle_low _)
 
 returns : tie.Need-returns
 returns c =
-    release-kept _ _ _ _ _ _ _ c.before.before.before.before.before.before.paddle-of.ensures c.before.before.before.before.paddle-at.ensures c.before.before.before.kind-of.ensures
+    release_kept _ _ _ _ _ _ _ c.before.before.before.before.before.before.paddle-of.ensures c.before.before.before.before.paddle-at.ensures c.before.before.before.kind-of.ensures
     c.before.before.release.ensures c.keep-paddle.ensures
 
 pub release_spec : {M : Type 1} → statement M

@@ -1,19 +1,19 @@
 use Prim.Native.Nat.{◌≤◌, ◌-◌}
 use native.Mathlib.Omega.{arith}
 use borrow.Author.Rules.{rules}
-use Rattle.model.specs.Model.{paddleCount}
-use Rattle.panel.proofs.Loops.{Running, running-begins, running-again, running-ends}
+use Rattle.model.specs.Model.{paddle_count}
+use Rattle.panel.proofs.Loops.{Running, running_begins, running_again, running_ends}
 use Rattle.panel.proofs.run.Statement.{statement}
 use Rattle.panel.proofs.run.Tie as tie
 
 abbrev invariant-loop : tie.invariant-loop
-invariant-loop paddles₀ i₀ paddles i = (i ≤ paddleCount) × Running paddles₀ i paddles
+invariant-loop paddles₀ i₀ paddles i = (i ≤ paddle_count) × Running paddles₀ i paddles
 
 abbrev decreases-loop : tie.decreases-loop
-decreases-loop paddles₀ i₀ paddles i = paddleCount - i
+decreases-loop paddles₀ i₀ paddles i = paddle_count - i
 
 loop-holds : tie.Need-loop-init invariant-loop decreases-loop
-loop-holds c = (search rules, running-begins _)
+loop-holds c = (search rules, running_begins _)
 
 run-at-requires : tie.Need-run-at-requires invariant-loop decreases-loop
 run-at-requires c κs = search rules
@@ -25,10 +25,10 @@ loop-less : tie.Need-loop-smaller invariant-loop decreases-loop
 loop-less c = search rules
 
 loop-again : tie.Need-loop-preserved invariant-loop decreases-loop
-loop-again c = let loop = c.before.before.before.loop in (search rules, running-again _ _ _ _ loop.invariant.1 c.run_at.ensures)
+loop-again c = let loop = c.before.before.before.loop in (search rules, running_again _ _ _ _ loop.invariant.1 c.run_at.ensures)
 
 returns : tie.Need-returns invariant-loop decreases-loop
-returns c = let loop = c.before.loop in running-ends _ _ _ loop.invariant.1 (omega arith)
+returns c = let loop = c.before.loop in running_ends _ _ _ loop.invariant.1 (omega arith)
 
 pub run_spec : {M : Type 1} → statement M
 run_spec = tie.close (tie.spec invariant-loop decreases-loop loop-holds run-at-requires add-i loop-less loop-again returns)

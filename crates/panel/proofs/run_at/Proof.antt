@@ -1,5 +1,5 @@
 use borrow.Author.Rules.{rules}
-use Rattle.panel.specs.Code.{ranAt}
+use Rattle.panel.specs.Code.{ran_at}
 use Rattle.panel.proofs.run_at.Statement.{statement}
 use Rattle.panel.proofs.run_at.Tie as tie
 
@@ -40,7 +40,7 @@ element-write-paddles-2 : tie.Need-element-write-paddles-2
 element-write-paddles-2 c = search rules
 
 returns : tie.Need-returns
-unfolding ranAt
+unfolding ran_at
 returns c = rw (c.run-byte.ensures, c.before.before.left.ensures)
 
 pub run-at-spec : {M : Type 1} → statement M

@@ -2,12 +2,12 @@ use mathlib.Core.Path.{ap}
 use Prim.Native.Nat.{ℕ, ◌/◌}
 use lib.Bits.{and_mask}
 use lib.Dec.{eqb}
-use Rattle.panel.specs.Panel.{slaveIn}
+use Rattle.panel.specs.Panel.{slave_in}
 use Rattle.panel.proofs.slave_in.Statement.{statement}
 use Rattle.panel.proofs.slave_in.Tie as tie
 
 returns : tie.Need-returns
-unfolding slaveIn
+unfolding slave_in
 returns c = ap (λ (bit : ℕ). eqb bit 1) (and_mask (c.args.contacts / 2) 1)
 
 pub slave-in-spec : {M : Type 1} → statement M

@@ -1,5 +1,5 @@
 use native.Mathlib.Omega.{arith}
-use Rattle.panel.proofs.Laws.{ticks-at}
+use Rattle.panel.proofs.Laws.{ticks_at}
 use borrow.Author.Rules.{rules}
 use Rattle.panel.proofs.tick_at.Statement.{statement}
 use Rattle.panel.proofs.tick_at.Tie as tie
@@ -15,7 +15,7 @@ run-at-requires c κs = search rules
 
 returns : tie.Need-returns
 returns c =
-    ticks-at _ _ _ _ _ (omega arith) c.before.before.before.before.gesture-at.ensures c.before.before.use-up.ensures c.run_at.ensures
+    ticks_at _ _ _ _ _ (omega arith) c.before.before.before.before.gesture-at.ensures c.before.before.use-up.ensures c.run_at.ensures
 
 pub tick-at-spec : {M : Type 1} → statement M
 tick-at-spec = tie.close (tie.spec gesture-at-requires use-up-requires run-at-requires returns)

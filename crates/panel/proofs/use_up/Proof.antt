@@ -1,5 +1,5 @@
 use mathlib.Core.Path.{sym, ◌∙◌}
-use Rattle.panel.specs.Code.{usedUp}
+use Rattle.panel.specs.Code.{used_up}
 use borrow.Author.Rules.{rules}
 use Rattle.panel.proofs.use_up.Statement.{statement}
 use Rattle.panel.proofs.use_up.Tie as tie
@@ -8,7 +8,7 @@ none-requires : tie.Need-none-requires
 none-requires c κs = search rules
 
 returns : tie.Need-returns
-unfolding usedUp
+unfolding used_up
 returns c = rw (sym c.before.none.ensures ∙ c.if1.true)
 
 add-paddles : tie.Need-overflow-add-paddles
@@ -18,7 +18,7 @@ element-write-paddles : tie.Need-element-write-paddles
 element-write-paddles c = search rules
 
 returns-2 : tie.Need-returns-2
-unfolding usedUp
+unfolding used_up
 returns-2 c = rw (sym c.before.none.ensures ∙ c.if1.false)
 
 pub use-up-spec : {M : Type 1} → statement M

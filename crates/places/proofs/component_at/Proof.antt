@@ -1,5 +1,5 @@
 use borrow.Author.Rules.{rules}
-use Rattle.places.specs.Places.{componentIn}
+use Rattle.places.specs.Places.{component_in}
 use Rattle.places.proofs.component_at.Statement.{statement}
 use Rattle.places.proofs.component_at.Tie as tie
 
@@ -22,7 +22,7 @@ element-copy-out-t14 : tie.Need-element-copy-out-t14
 element-copy-out-t14 c = search rules
 
 returns : tie.Need-returns
-unfolding componentIn
+unfolding component_in
 returns c = cc
 
 pub component-at-spec : {M : Type 1} → statement M

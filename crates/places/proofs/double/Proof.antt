@@ -1,5 +1,5 @@
 use borrow.Author.Rules.{rules}
-use Rattle.places.specs.Places.{doubleIn}
+use Rattle.places.specs.Places.{double_in}
 use Rattle.places.proofs.double.Statement.{statement}
 use Rattle.places.proofs.double.Tie as tie
 
@@ -19,7 +19,7 @@ element-copy-out-t11 : tie.Need-element-copy-out-t11
 element-copy-out-t11 c = search rules
 
 returns : tie.Need-returns
-unfolding doubleIn
+unfolding double_in
 returns c = cc
 
 pub double-spec : {M : Type 1} → statement M

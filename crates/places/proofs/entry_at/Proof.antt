@@ -1,5 +1,5 @@
 use borrow.Author.Rules.{rules}
-use Rattle.places.specs.Places.{entryIn}
+use Rattle.places.specs.Places.{entry_in}
 use Rattle.places.proofs.entry_at.Statement.{statement}
 use Rattle.places.proofs.entry_at.Tie as tie
 
@@ -22,7 +22,7 @@ element-copy-out-t14 : tie.Need-element-copy-out-t14
 element-copy-out-t14 c = search rules
 
 returns : tie.Need-returns
-unfolding entryIn
+unfolding entry_in
 returns c = cc
 
 pub entry-at-spec : {M : Type 1} → statement M

@@ -1,5 +1,5 @@
 use borrow.Author.Rules.{rules}
-use Rattle.places.specs.Places.{singleIn}
+use Rattle.places.specs.Places.{single_in}
 use Rattle.places.proofs.single.Statement.{statement}
 use Rattle.places.proofs.single.Tie as tie
 
@@ -16,7 +16,7 @@ element-copy-out-t10 : tie.Need-element-copy-out-t10
 element-copy-out-t10 c = search rules
 
 returns : tie.Need-returns
-unfolding singleIn
+unfolding single_in
 returns c = cc
 
 pub single-spec : {M : Type 1} → statement M

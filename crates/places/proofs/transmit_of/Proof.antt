@@ -1,5 +1,5 @@
 use borrow.Author.Rules.{rules}
-use Rattle.places.specs.Places.{transmitIn}
+use Rattle.places.specs.Places.{transmit_in}
 use Rattle.places.proofs.transmit_of.Statement.{statement}
 use Rattle.places.proofs.transmit_of.Tie as tie
 
@@ -34,7 +34,7 @@ element-copy-out-t22 : tie.Need-element-copy-out-t22
 element-copy-out-t22 c = search rules
 
 returns : tie.Need-returns
-unfolding transmitIn
+unfolding transmit_in
 returns c = cc
 
 pub transmit-of-spec : {M : Type 1} → statement M

@@ -1,6 +1,6 @@
 -- `put` meets its contract: what the writer promises is what laying a message's packets promises.
 use borrow.Author.Rules.{rules}
-use Rattle.post.proofs.Steps.{wrote_nothing, wrote-packet}
+use Rattle.post.proofs.Steps.{wrote_nothing, wrote_packet}
 use Rattle.post.proofs.put.Statement.{statement}
 use Rattle.post.proofs.put.Tie as tie
 
@@ -20,7 +20,7 @@ same-length-2 : tie.Need-same-length-2
 same-length-2 c = search rules
 
 returns-2 : tie.Need-returns-2
-returns-2 c = wrote-packet _ _ _ _ _ _ _ _ (rw c.before.written.given.1 at c.before.before.before.before.before.write.ensures)
+returns-2 c = wrote_packet _ _ _ _ _ _ _ _ (rw c.before.written.given.1 at c.before.before.before.before.before.write.ensures)
 
 pub put_spec : {M : Type 1} → statement M
 put_spec =

@@ -1,7 +1,7 @@
 -- `send` meets its contract: each arm is the message of its reply.
 use borrow.Author.Rules.{rules}
-use Rattle.post.specs.Post.{replied, replyMessage, bytes_of, enveloped}
-use Rattle.post.proofs.Laws.{nothing-laid}
+use Rattle.post.specs.Post.{replied, reply_message, bytes_of, enveloped}
+use Rattle.post.proofs.Laws.{nothing_laid}
 use Rattle.post.proofs.send.Statement.{statement}
 use Rattle.post.proofs.send.Tie as tie
 
@@ -24,21 +24,21 @@ send-values-requires : tie.Need-send-values-requires
 send-values-requires c κs = search rules
 
 returns : tie.Need-returns
-unfolding replied replyMessage enveloped
-returns c = rw c.enum_told.given.1 (nothing-laid _)
+unfolding replied reply_message enveloped
+returns c = rw c.enum_told.given.1 (nothing_laid _)
 
 same_length : tie.Need-same-length
 same_length c = search rules
 
 returns-2 : tie.Need-returns-2
-unfolding replied replyMessage bytes_of
+unfolding replied reply_message bytes_of
 returns-2 c = rw c.before.before.before.before.before.enum-told2.given.1 c.before.before.direct.ensures
 
 same-length-2 : tie.Need-same-length-2
 same-length-2 c = search rules
 
 returns-3 : tie.Need-returns-3
-unfolding replied replyMessage
+unfolding replied reply_message
 returns-3 c = rw c.before.before.before.before.before.reply.given.1 c.before.before.send-values.ensures
 
 pub send-spec : {M : Type 1} → statement M

@@ -1,7 +1,7 @@
 -- `send_values` meets its contract: the front of the buffer, with the values read into it, is the message.
 use borrow.Author.Rules.{rules}
 use mathlib.Core.Path.{sym}
-use Rattle.post.proofs.Steps.{filled, filled-length, filled-most, filled-room}
+use Rattle.post.proofs.Steps.{filled, filled_length, filled_most, filled_room}
 use Rattle.post.proofs.send_values.Statement.{statement}
 use Rattle.post.proofs.send_values.Tie as tie
 
@@ -30,17 +30,17 @@ range-requires : tie.Need-range-requires
 range-requires c κs = search rules
 
 array-share-prefix-bytes : tie.Need-array-share-prefix-bytes
-array-share-prefix-bytes c = filled-room _ _ _ _ _ _ _ c.before.before.before.held.ensures c.before.range.ensures 0x90 0
+array-share-prefix-bytes c = filled_room _ _ _ _ _ _ _ c.before.before.before.held.ensures c.before.range.ensures 0x90 0
 
 slice-aggregate-direct : tie.Need-slice-aggregate-direct
 slice-aggregate-direct c =
     let read = c.before.before in
-    sym (filled-length _ _ _ _ _ _ _ read.before.before.held.ensures read.range.ensures _ _)
+    sym (filled_length _ _ _ _ _ _ _ read.before.before.held.ensures read.range.ensures _ _)
 
 direct-requires : tie.Need-direct-requires
 direct-requires c κs =
     let read = c.before.before.before in
-    filled-most _ _ _ _ _ _ _ read.before.before.held.ensures read.range.ensures _ _
+    filled_most _ _ _ _ _ _ _ read.before.before.held.ensures read.range.ensures _ _
 
 same_length : tie.Need-same-length
 same_length c = search rules

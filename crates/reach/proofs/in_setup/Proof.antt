@@ -1,5 +1,5 @@
 use borrow.Author.Rules.{rules}
-use Rattle.vault.specs.Vault.{inSetup}
+use Rattle.vault.specs.Vault.{in_setup}
 use Rattle.reach.proofs.in_setup.Statement.{statement}
 use Rattle.reach.proofs.in_setup.Tie as tie
 
@@ -13,15 +13,15 @@ enum-told-3 : tie.Need-enum-told-3
 enum-told-3 c = search rules
 
 returns : tie.Need-returns
-unfolding inSetup
+unfolding in_setup
 returns c = rw c.enum_told.given.1
 
 returns-2 : tie.Need-returns-2
-unfolding inSetup
+unfolding in_setup
 returns-2 c = rw c.enum-told2.given.1
 
 returns-3 : tie.Need-returns-3
-unfolding inSetup
+unfolding in_setup
 returns-3 c = rw c.enum-told3.given.1
 
 pub in-setup-spec : {M : Type 1} → statement M

@@ -86,7 +86,7 @@ returns-2 c = c.if1.false ∙ rw (c.before.before.enum_told.given.1, ← c.befor
 
 returns-3 : tie.Need-returns-3
 unfolding permitted
-returns-3 c = c.in-setup.ensures ∙ rw (c.before.before.before.enum-told2.given.1, ← c.before.before.direct.ensures, c.before.if2.true)
+returns-3 c = c.in_setup_lem.ensures ∙ rw (c.before.before.before.enum-told2.given.1, ← c.before.before.direct.ensures, c.before.if2.true)
 
 returns-4 : tie.Need-returns-4
 unfolding permitted

@@ -1,6 +1,6 @@
 use borrow.Author.Rules.{rules}
 use Rattle.words.proofs.Laws.{tests}
-use Rattle.registers.specs.Registers.{firstSeen}
+use Rattle.registers.specs.Registers.{first_seen}
 use Rattle.registers.proofs.first_seen.Statement.{statement}
 use Rattle.registers.proofs.first_seen.Tie as tie
 
@@ -11,11 +11,11 @@ enum-known-seen : tie.Need-enum-known-seen
 enum-known-seen c = search rules
 
 returns : tie.Need-returns
-unfolding firstSeen
+unfolding first_seen
 returns c = search tests
 
 returns-2 : tie.Need-returns-2
-unfolding firstSeen
+unfolding first_seen
 returns-2 c = search tests
 
 pub first-seen-spec : {M : Type 1} → statement M

@@ -9,7 +9,7 @@ use borrow.Author.Rules.{rules}
 use Rattle.places.proofs.Laws.{plain}
 use Rattle.registers.specs.Registers.{range_of}
 use Rattle.registers.specs.declared.Seen.{Seen}
-use Rattle.registers.proofs.Laws.{range-more, read_plain}
+use Rattle.registers.proofs.Laws.{range_more, read_plain}
 use Rattle.registers.proofs.read.Statement.{statement}
 use Rattle.registers.proofs.read.Tie as tie
 
@@ -57,7 +57,7 @@ loop-again c =
       (
         simp length-set (omega arith),
         λ seen n e.
-            range-more args.all.now seen args.start loop.out loop.i _ n (omega arith)
+            range_more args.all.now seen args.start loop.out loop.i _ n (omega arith)
             (sym (read_plain args.all.now seen place (plain place (omega arith)) (omega arith)))
             ∙ loop.invariant.1.1 seen (suc n) (omega arith),
       ),

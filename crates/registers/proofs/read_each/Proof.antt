@@ -6,8 +6,8 @@ use native.Mathlib.Omega.{arith}
 use lib.ListN.{length, take, length-set}
 use lib.Seq.{take_all}
 use borrow.Author.Rules.{rules}
-use Rattle.registers.specs.Registers.{masked, range_of, readAt}
-use Rattle.registers.proofs.Laws.{range-more}
+use Rattle.registers.specs.Registers.{masked, range_of, read_at}
+use Rattle.registers.proofs.Laws.{range_more}
 use Rattle.registers.proofs.read_each.Statement.{statement}
 use Rattle.registers.proofs.read_each.Tie as tie
 
@@ -50,7 +50,7 @@ loop-less : tie.Need-loop-smaller invariant-loop decreases-loop
 loop-less c = simp length-set (omega arith)
 
 loop-again : tie.Need-loop-preserved invariant-loop decreases-loop
-unfolding readAt
+unfolding read_at
 loop-again c =
     let held = c.before in
     let loop = held.before.before.loop in
@@ -59,7 +59,7 @@ loop-again c =
       (
         simp length-set (omega arith),
         λ n e.
-            range-more args.all.now args.seen args.start loop.out loop.i c.masked.result n (omega arith)
+            range_more args.all.now args.seen args.start loop.out loop.i c.masked.result n (omega arith)
             (c.masked.ensures ∙ ap (masked args.seen (args.start + loop.i)) held.register.ensures)
             ∙ loop.invariant.1.1 (suc n) (omega arith),
       ),

@@ -3,7 +3,7 @@ use borrow.Author.Rules.{rules}
 use native.Mathlib.Omega.{arith}
 use lib.ListN.{length-append, length-take}
 use Rattle.ledger.specs.Writing.{answered}
-use Rattle.stage.proofs.Laws.{absent, plays, present, still-lent}
+use Rattle.stage.proofs.Laws.{absent, plays, present, still_lent}
 use Rattle.stage.proofs.tell.Statement.{statement}
 use Rattle.stage.proofs.tell.Tie as tie
 
@@ -43,7 +43,7 @@ slice-aggregate-answered c =
     let happen = c.before.before.before.before in
     let least = happen.before.before.before.before.before.before in
     let a = least.before.before.before.before.before.before.before.args in
-    simp (length-take, length-append) (omega (arith, still-lent _ a.desk _ _ _ _ a.buffer.now _ _ _ _ _ _ _ least.least.ensures happen.happen.ensures))
+    simp (length-take, length-append) (omega (arith, still_lent _ a.desk _ _ _ _ a.buffer.now _ _ _ _ _ _ _ least.least.ensures happen.happen.ensures))
 
 answered-requires : tie.Need-answered-requires
 answered-requires c κs = search rules

@@ -3,7 +3,7 @@ use borrow.Author.Rules.{rules}
 use native.Mathlib.Omega.{arith}
 use lib.ListN.{length-append, length-take}
 use Rattle.ledger.specs.Writing.{row}
-use Rattle.stage.proofs.Laws.{plays, still-lent}
+use Rattle.stage.proofs.Laws.{plays, still_lent}
 use Rattle.stage.proofs.tick.Statement.{statement}
 use Rattle.stage.proofs.tick.Tie as tie
 
@@ -30,7 +30,7 @@ slice-aggregate-row c =
     let happen = c.before.before.before.before in
     let least = happen.before.before.before.before.before.before.before in
     let a = least.before.before.before.args in
-    simp (length-take, length-append) (omega (arith, still-lent _ a.desk _ _ _ _ a.buffer.now _ _ _ _ _ _ _ least.least.ensures happen.happen.ensures))
+    simp (length-take, length-append) (omega (arith, still_lent _ a.desk _ _ _ _ a.buffer.now _ _ _ _ _ _ _ least.least.ensures happen.happen.ensures))
 
 row-requires : tie.Need-row-requires
 row-requires c κs = search rules

@@ -1,6 +1,6 @@
 use borrow.Author.Rules.{rules}
 use mathlib.Core.Path.{refl}
-use Rattle.switch.specs.Switch.{answerWith}
+use Rattle.switch.specs.Switch.{answer_with}
 use Rattle.switch.proofs.show.Statement.{statement}
 use Rattle.switch.proofs.show.Tie as tie
 
@@ -17,7 +17,7 @@ colour-requires : tie.Need-colour-requires
 colour-requires c κs = search rules
 
 returns : tie.Need-returns
-unfolding answerWith
+unfolding answer_with
 returns c = simp (c.colour.ensures, c.before.output.ensures, c.before.before.light.ensures, c.before.before.before.digit.ensures)
 
 pub show-spec : {M : Type 1} → statement M

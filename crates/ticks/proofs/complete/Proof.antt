@@ -1,4 +1,4 @@
-use Rattle.ticks.proofs.Ticking.{ticks-shift}
+use Rattle.ticks.proofs.Ticking.{ticks_shift}
 use borrow.Author.Rules.{rules}
 use Rattle.ticks.proofs.complete.Statement.{statement}
 use Rattle.ticks.proofs.complete.Tie as tie
@@ -29,7 +29,7 @@ shown-requires c κs = search rules
 
 returns : tie.Need-returns
 returns c =
-    ticks-shift _ _ _ _ _ _ _ _ _ _ _ _ _ c.before.before.before.before.none.result c.shown.result c.before.before.before.before.before.before.before.before.before.before.before.before.before.before.before.before.sized.ensures c.before.before.before.before.before.before.before.before.before.before.before.before.before.before.tick.ensures c.before.before.before.before.before.before.before.before.before.before.before.before.before.lone.ensures c.before.before.before.before.before.before.before.before.before.before.before.mode-in.ensures c.before.before.before.before.before.before.before.before.before.before.shifts.ensures c.before.before.before.before.before.before.before.before.before.if1.true
+    ticks_shift _ _ _ _ _ _ _ _ _ _ _ _ _ c.before.before.before.before.none.result c.shown.result c.before.before.before.before.before.before.before.before.before.before.before.before.before.before.before.before.sized.ensures c.before.before.before.before.before.before.before.before.before.before.before.before.before.before.tick.ensures c.before.before.before.before.before.before.before.before.before.before.before.before.before.lone.ensures c.before.before.before.before.before.before.before.before.before.before.before.mode-in.ensures c.before.before.before.before.before.before.before.before.before.before.shifts.ensures c.before.before.before.before.before.before.before.before.before.if1.true
     c.before.before.before.before.before.shift.ensures c.before.before.before.before.none.ensures c.shown.ensures
 
 turn-requires : tie.Need-turn-requires

@@ -1,4 +1,4 @@
-use Rattle.ticks.proofs.Ticking.{ticks-all}
+use Rattle.ticks.proofs.Ticking.{ticks_all}
 use borrow.Author.Rules.{rules}
 use Rattle.ticks.proofs.turn.Statement.{statement}
 use Rattle.ticks.proofs.turn.Tie as tie
@@ -33,7 +33,7 @@ same_length c = search rules
 returns : tie.Need-returns
 returns c =
     λ l l' ticks.
-    ticks-all _ _ _ _ _ _ _ _ _ _ _ _ _ _ _ _ _ _ _ _ ticks c.before.before.before.before.before.before.before.before.before.before.before.before.before.before.before.before.before.core-of.ensures c.before.before.before.before.before.before.before.before.before.before.before.before.before.before.before.before.aged.ensures c.before.before.before.before.before.before.before.before.before.before.before.before.before.before.password-of.ensures c.before.before.before.before.before.before.before.before.before.before.before.before.turns.ensures
+    ticks_all _ _ _ _ _ _ _ _ _ _ _ _ _ _ _ _ _ _ _ _ ticks c.before.before.before.before.before.before.before.before.before.before.before.before.before.before.before.before.before.core-of.ensures c.before.before.before.before.before.before.before.before.before.before.before.before.before.before.before.before.aged.ensures c.before.before.before.before.before.before.before.before.before.before.before.before.before.before.password-of.ensures c.before.before.before.before.before.before.before.before.before.before.before.before.turns.ensures
     c.before.before.before.before.before.before.before.before.before.before.before.saved.ensures c.before.before.before.before.before.before.before.before.apply.ensures c.before.before.finish.ensures
 
 pub turn_spec : {M : Type 1} → statement M

@@ -1,6 +1,6 @@
 use mathlib.Core.Path.{refl}
 use borrow.Author.Rules.{rules}
-use Rattle.turns.proofs.Laws.{turned-stands}
+use Rattle.turns.proofs.Laws.{turned_stands}
 use Rattle.turns.proofs.turned.Statement.{statement}
 use Rattle.turns.proofs.turned.Tie as tie
 
@@ -31,7 +31,7 @@ returns c =
     let apply = password.before.before.before.before in
     let act = apply.before.before.before.before in
     let a = act.before.before.args in
-    turned-stands a.all.now _ a.core a.password password.password.result a.paddle a.gesture act.act.result password.before.before.percent.result c.announce.result _
+    turned_stands a.all.now _ a.core a.password password.password.result a.paddle a.gesture act.act.result password.before.before.percent.result c.announce.result _
     act.act.ensures apply.apply.ensures password.before.before.percent.ensures password.password.ensures c.announce.ensures refl
 
 pub turned-spec : {M : Type 1} → statement M

@@ -5,21 +5,21 @@ use native.Mathlib.Omega.{arith}
 use lib.ListN.{length}
 use borrow.Author.Rules.{rules}
 use Rattle.vault.specs.Job.{nothing}
-use Rattle.model.specs.Model.{paddleCount}
-use Rattle.outbox.proofs.Laying.{holds-none}
+use Rattle.model.specs.Model.{paddle_count}
+use Rattle.outbox.proofs.Laying.{holds_none}
 use Rattle.turns.specs.Turns.{moment}
-use Rattle.turns.specs.Code.{turnsBy}
-use Rattle.words.proofs.Laws.{length-of-mapped}
-use Rattle.turns.proofs.Laws.{Turning, turning-begins, turning-again, turning-ends}
+use Rattle.turns.specs.Code.{turns_by}
+use Rattle.words.proofs.Laws.{length_of_mapped}
+use Rattle.turns.proofs.Laws.{Turning, turning_begins, turning_again, turning_ends}
 use Rattle.turns.proofs.turns.Statement.{statement}
 use Rattle.turns.proofs.turns.Tie as tie
 
 abbrev invariant-loop : tie.invariant-loop
 invariant-loop all₀ gestures next₀ i₀ all next i =
-    (i ≤ paddleCount) × ((length gestures ≡ paddleCount) × Turning (turnsBy 0 gestures (moment all₀ next₀.core [] nothing)) next₀.password gestures i next all)
+    (i ≤ paddle_count) × ((length gestures ≡ paddle_count) × Turning (turns_by 0 gestures (moment all₀ next₀.core [] nothing)) next₀.password gestures i next all)
 
 abbrev decreases-loop : tie.decreases-loop
-decreases-loop all₀ gestures next₀ i₀ all next i = paddleCount - i
+decreases-loop all₀ gestures next₀ i₀ all next i = paddle_count - i
 
 none-requires : tie.Need-none-requires invariant-loop decreases-loop
 none-requires c κs = search rules
@@ -27,8 +27,8 @@ none-requires c κs = search rules
 loop-holds : tie.Need-loop-init invariant-loop decreases-loop
 loop-holds c =
     let a = c.before.args in
-    let all_there : length a.t3 ≡ paddleCount = search (rules, length-of-mapped) in
-    (search rules, (all_there, turning-begins a.t3 a.core a.all.now a.password _ (holds-none _ c.none.ensures)))
+    let all_there : length a.t3 ≡ paddle_count = search (rules, length_of_mapped) in
+    (search rules, (all_there, turning_begins a.t3 a.core a.all.now a.password _ (holds_none _ c.none.ensures)))
 
 mul-gesture : tie.Need-overflow-mul-gesture invariant-loop decreases-loop
 mul-gesture c = search rules
@@ -55,7 +55,7 @@ loop-again c =
       search rules,
       (
         loop.invariant.1.0,
-        turning-again _ a.password a.t3 loop.i loop.next loop.all c.next-turn.result _ loop.invariant.1.1 (omega arith) (omega arith) c.next-turn.ensures,
+        turning_again _ a.password a.t3 loop.i loop.next loop.all c.next-turn.result _ loop.invariant.1.1 (omega arith) (omega arith) c.next-turn.ensures,
       ),
     )
 
@@ -63,7 +63,7 @@ returns : tie.Need-returns invariant-loop decreases-loop
 returns c =
     let loop = c.before.loop in
     let a = c.before.before.before.args in
-    turning-ends _ a.password a.t3 loop.i loop.next loop.all loop.invariant.1.1 (omega arith)
+    turning_ends _ a.password a.t3 loop.i loop.next loop.all loop.invariant.1.1 (omega arith)
 
 pub turns-spec : {M : Type 1} → statement M
 turns-spec =

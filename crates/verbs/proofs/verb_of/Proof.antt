@@ -1,58 +1,58 @@
 use Rattle.words.proofs.Laws.{tests}
-use Rattle.verbs.specs.Verbs.{verbOf}
+use Rattle.verbs.specs.Verbs.{verb_of}
 use Rattle.verbs.proofs.verb_of.Statement.{statement}
 use Rattle.verbs.proofs.verb_of.Tie as tie
 
 returns : tie.Need-returns
-unfolding verbOf
+unfolding verb_of
 returns c = rw c.match.keys1
 
 returns-2 : tie.Need-returns-2
-unfolding verbOf
+unfolding verb_of
 returns-2 c = rw c.match.keys2
 
 returns-3 : tie.Need-returns-3
-unfolding verbOf
+unfolding verb_of
 returns-3 c = rw c.match.keys3
 
 returns-4 : tie.Need-returns-4
-unfolding verbOf
+unfolding verb_of
 returns-4 c = rw c.match.keys4
 
 returns-5 : tie.Need-returns-5
-unfolding verbOf
+unfolding verb_of
 returns-5 c = rw c.match.keys5
 
 returns-6 : tie.Need-returns-6
-unfolding verbOf
+unfolding verb_of
 returns-6 c = rw c.match.keys6
 
 returns-7 : tie.Need-returns-7
-unfolding verbOf
+unfolding verb_of
 returns-7 c = rw c.match.keys7
 
 returns-8 : tie.Need-returns-8
-unfolding verbOf
+unfolding verb_of
 returns-8 c = rw c.match.keys8
 
 returns-9 : tie.Need-returns-9
-unfolding verbOf
+unfolding verb_of
 returns-9 c = rw c.match.keys9
 
 returns-10 : tie.Need-returns-10
-unfolding verbOf
+unfolding verb_of
 returns-10 c = rw c.match.keys10
 
 returns-11 : tie.Need-returns-11
-unfolding verbOf
+unfolding verb_of
 returns-11 c = rw c.match.keys11
 
 returns-12 : tie.Need-returns-12
-unfolding verbOf
+unfolding verb_of
 returns-12 c = rw c.match.keys12
 
 returns-13 : tie.Need-returns-13
-unfolding verbOf
+unfolding verb_of
 returns-13 c = search tests
 
 pub verb-of-spec : {M : Type 1} → statement M

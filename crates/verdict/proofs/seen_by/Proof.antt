@@ -1,4 +1,4 @@
-use Rattle.verdict.specs.Code.{seenBy}
+use Rattle.verdict.specs.Code.{seen_by}
 use borrow.Author.Rules.{rules}
 use Rattle.verdict.proofs.seen_by.Statement.{statement}
 use Rattle.verdict.proofs.seen_by.Tie as tie
@@ -13,15 +13,15 @@ enum-told-3 : tie.Need-enum-told-3
 enum-told-3 c = search rules
 
 returns : tie.Need-returns
-unfolding seenBy
+unfolding seen_by
 returns c = rw c.enum_told.given.1
 
 returns-2 : tie.Need-returns-2
-unfolding seenBy
+unfolding seen_by
 returns-2 c = rw c.enum-told2.given.1
 
 returns-3 : tie.Need-returns-3
-unfolding seenBy
+unfolding seen_by
 returns-3 c = rw c.enum-told3.given.1
 
 pub seen-by-spec : {M : Type 1} → statement M

@@ -1,4 +1,4 @@
-use Rattle.verdict.specs.Code.{verdictOf}
+use Rattle.verdict.specs.Code.{verdict_of}
 use borrow.Author.Rules.{rules}
 use Rattle.verdict.proofs.verdict_of.Statement.{statement}
 use Rattle.verdict.proofs.verdict_of.Tie as tie
@@ -19,19 +19,19 @@ enum-told-2 : tie.Need-enum-told-2
 enum-told-2 c = search rules
 
 returns : tie.Need-returns
-unfolding verdictOf
+unfolding verdict_of
 returns c = rw c.before.order.given.1
 
 returns-2 : tie.Need-returns-2
-unfolding verdictOf
+unfolding verdict_of
 returns-2 c = simp (c.opening.ensures, c.before.before.order2.given.1)
 
 returns-3 : tie.Need-returns-3
-unfolding verdictOf
+unfolding verdict_of
 returns-3 c = rw c.enum_told.given.1
 
 returns-4 : tie.Need-returns-4
-unfolding verdictOf
+unfolding verdict_of
 returns-4 c = rw c.enum-told2.given.1
 
 pub verdict-of-spec : {M : Type 1} → statement M

@@ -5,7 +5,7 @@ use native.Mathlib.Omega.{arith}
 use mathlib.Core.List.{[], ◌∷◌}
 use lib.ListN.{length-set}
 use lib.Seq.{sets-eq}
-use Rattle.packet.specs.Layout.{headBytes, firstByte, secondByte}
+use Rattle.packet.specs.Layout.{head_bytes, first_byte, second_byte}
 use Rattle.writer.proofs.Laws.{ranges}
 use Rattle.writer.proofs.head.Statement.{statement}
 use Rattle.writer.proofs.head.Tie as tie
@@ -41,13 +41,13 @@ same_length : tie.Need-same-length
 same_length c = search rules
 
 returns : tie.Need-returns
-unfolding headBytes
+unfolding head_bytes
 returns c =
     let a = c.before.before.before.args in
     let h = a.header in
     rw (c.before.first.ensures, c.second.ensures)
     (sets-eq
-    (firstByte h.link h.repeat (a.size + 6) ∷ secondByte h.request h.count h.sequence ∷ h.network ∷ h.destination ∷ h.source ∷ []) a.out.now 0 (search rules))
+    (first_byte h.link h.repeat (a.size + 6) ∷ second_byte h.request h.count h.sequence ∷ h.network ∷ h.destination ∷ h.source ∷ []) a.out.now 0 (search rules))
 
 pub head_spec : {M : Type 1} → statement M
 head_spec =

@@ -1,31 +1,31 @@
 -- `ranged` meets its contract: each test is one of the writer's ranges.
 use Rattle.words.proofs.Laws.{tests}
-use Rattle.writer.specs.Writing.{fieldsInRange}
+use Rattle.writer.specs.Writing.{fields_in_range}
 use Rattle.writer.proofs.ranged.Statement.{statement}
 use Rattle.writer.proofs.ranged.Tie as tie
 
 returns : tie.Need-returns
-unfolding fieldsInRange
+unfolding fields_in_range
 returns c = search tests
 
 returns-2 : tie.Need-returns-2
-unfolding fieldsInRange
+unfolding fields_in_range
 returns-2 c = search tests
 
 returns-3 : tie.Need-returns-3
-unfolding fieldsInRange
+unfolding fields_in_range
 returns-3 c = search tests
 
 returns-4 : tie.Need-returns-4
-unfolding fieldsInRange
+unfolding fields_in_range
 returns-4 c = search tests
 
 returns-5 : tie.Need-returns-5
-unfolding fieldsInRange
+unfolding fields_in_range
 returns-5 c = search tests
 
 returns-6 : tie.Need-returns-6
-unfolding fieldsInRange
+unfolding fields_in_range
 returns-6 c = search tests
 
 pub ranged-spec : {M : Type 1} → statement M

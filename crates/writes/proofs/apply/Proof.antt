@@ -1,6 +1,6 @@
 use borrow.Author.Rules.{rules}
 use Rattle.writes.specs.Writes.{applied}
-use Rattle.places.proofs.Laws.{counter-within}
+use Rattle.places.proofs.Laws.{counter_within}
 use Rattle.writes.proofs.apply.Statement.{statement}
 use Rattle.writes.proofs.apply.Tie as tie
 
@@ -14,7 +14,7 @@ place-requires : tie.Need-place-requires
 place-requires c κs = search rules
 
 element-copy-out-old : tie.Need-element-copy-out-old
-element-copy-out-old c = rw c.place.ensures (counter-within _)
+element-copy-out-old c = rw c.place.ensures (counter_within _)
 
 more-requires : tie.Need-more-requires
 more-requires c κs = search rules

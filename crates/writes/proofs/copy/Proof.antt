@@ -4,19 +4,19 @@ use native.Mathlib.Numerals.{add-one}
 use native.Mathlib.Omega.{arith}
 use lib.ListN.{length}
 use borrow.Author.Rules.{rules}
-use Rattle.writes.specs.Writes.{valuesBy}
-use Rattle.writes.proofs.Writing.{stored-plain}
+use Rattle.writes.specs.Writes.{values_by}
+use Rattle.writes.proofs.Writing.{stored_plain}
 use Rattle.writes.proofs.copy.Statement.{statement}
 use Rattle.writes.proofs.copy.Tie as tie
 
 abbrev invariant-loop : tie.invariant-loop
-invariant-loop first values all₀ i₀ all i = (i ≤ length values) × (all ≡ valuesBy i first values all₀)
+invariant-loop first values all₀ i₀ all i = (i ≤ length values) × (all ≡ values_by i first values all₀)
 
 abbrev decreases-loop : tie.decreases-loop
 decreases-loop first values all₀ i₀ all i = length values - i
 
 loop-holds : tie.Need-loop-init invariant-loop decreases-loop
-unfolding valuesBy
+unfolding values_by
 loop-holds c = (search rules, refl)
 
 shared-slice-read-all : tie.Need-shared-slice-read-all invariant-loop decreases-loop
@@ -35,11 +35,11 @@ loop-less : tie.Need-loop-smaller invariant-loop decreases-loop
 loop-less c = search rules
 
 loop-again : tie.Need-loop-preserved invariant-loop decreases-loop
-unfolding valuesBy
+unfolding values_by
 loop-again c =
     let loop = c.before.before.loop in
     let args = c.before.before.before.args in
-    (search rules, rw (add-one, ← loop.invariant.1) (sym (stored-plain (args.first + loop.i) _ loop.all (omega arith) (omega arith))))
+    (search rules, rw (add-one, ← loop.invariant.1) (sym (stored_plain (args.first + loop.i) _ loop.all (omega arith) (omega arith))))
 
 returns : tie.Need-returns invariant-loop decreases-loop
 returns c =

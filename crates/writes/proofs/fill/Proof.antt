@@ -3,7 +3,7 @@ use Prim.Native.Nat.{◌≤◌, ◌+◌, ◌-◌, suc}
 use native.Mathlib.Omega.{arith}
 use borrow.Author.Rules.{rules}
 use Rattle.writes.specs.Code.{filled}
-use Rattle.writes.proofs.Writing.{stored-plain}
+use Rattle.writes.proofs.Writing.{stored_plain}
 use Rattle.writes.proofs.fill.Statement.{statement}
 use Rattle.writes.proofs.fill.Tie as tie
 
@@ -38,7 +38,7 @@ loop-again c =
       omega arith,
       (
         search rules,
-        rw (next, here, ← loop.invariant.1.1) (sym (stored-plain loop.place args.value loop.all (omega arith) (omega arith))),
+        rw (next, here, ← loop.invariant.1.1) (sym (stored_plain loop.place args.value loop.all (omega arith) (omega arith))),
       ),
     )
 

@@ -1,6 +1,6 @@
 use borrow.Author.Rules.{rules}
 use Rattle.words.proofs.Laws.{tests}
-use Rattle.writes.specs.Writes.{oneMore}
+use Rattle.writes.specs.Writes.{one_more}
 use Rattle.writes.proofs.more.Statement.{statement}
 use Rattle.writes.proofs.more.Tie as tie
 
@@ -8,11 +8,11 @@ add-result : tie.Need-overflow-add-result
 add-result c = search rules
 
 returns : tie.Need-returns
-unfolding oneMore
+unfolding one_more
 returns c = search tests
 
 returns-2 : tie.Need-returns-2
-unfolding oneMore
+unfolding one_more
 returns-2 c = search tests
 
 pub more-spec : {M : Type 1} → statement M

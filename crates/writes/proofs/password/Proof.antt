@@ -1,6 +1,6 @@
 use borrow.Author.Rules.{rules}
 use Rattle.vault.specs.Job.{became, changed}
-use Rattle.writes.specs.Writes.{changeAt, changeOf, factoryAt}
+use Rattle.writes.specs.Writes.{change_at, change_of, factory_at}
 use Rattle.writes.proofs.password.Statement.{statement}
 use Rattle.writes.proofs.password.Tie as tie
 
@@ -32,27 +32,27 @@ byte-requires-2 : tie.Need-byte-requires-2
 byte-requires-2 c κs = search rules
 
 returns : tie.Need-returns
-unfolding changeAt changeOf changed became
+unfolding change_at change_of changed became
 returns c = rw c.enum_told.given.1
 
 returns-2 : tie.Need-returns-2
-unfolding changeAt changeOf changed became
+unfolding change_at change_of changed became
 returns-2 c = rw c.enum-told2.given.1
 
 returns-3 : tie.Need-returns-3
-unfolding changeAt changeOf changed became
+unfolding change_at change_of changed became
 returns-3 c = rw c.enum-told3.given.1
 
 returns-4 : tie.Need-returns-4
-unfolding changeAt changeOf changed became
+unfolding change_at change_of changed became
 returns-4 c = rw c.enum-told4.given.1
 
 returns-5 : tie.Need-returns-5
-unfolding changeAt changeOf changed became factoryAt
+unfolding change_at change_of changed became factory_at
 returns-5 c = rw c.enum-told5.given.1
 
 returns-6 : tie.Need-returns-6
-unfolding changeAt changeOf changed
+unfolding change_at change_of changed
 returns-6 c = simp (c.byte2.ensures, c.before.byte.ensures, c.before.before.before.write.given.1)
 
 pub password-spec : {M : Type 1} → statement M

@@ -4,18 +4,18 @@ use native.Mathlib.Numerals.{add-one}
 use native.Mathlib.Omega.{arith}
 use lib.ListN.{length}
 use borrow.Author.Rules.{rules}
-use Rattle.writes.specs.Writes.{valuesBy}
+use Rattle.writes.specs.Writes.{values_by}
 use Rattle.writes.proofs.store_each.Statement.{statement}
 use Rattle.writes.proofs.store_each.Tie as tie
 
 abbrev invariant-loop : tie.invariant-loop
-invariant-loop first values all₀ i₀ all i = (i ≤ length values) × (all ≡ valuesBy i first values all₀)
+invariant-loop first values all₀ i₀ all i = (i ≤ length values) × (all ≡ values_by i first values all₀)
 
 abbrev decreases-loop : tie.decreases-loop
 decreases-loop first values all₀ i₀ all i = length values - i
 
 loop-holds : tie.Need-loop-init invariant-loop decreases-loop
-unfolding valuesBy
+unfolding values_by
 loop-holds c = (search rules, refl)
 
 add-store : tie.Need-overflow-add-store invariant-loop decreases-loop
@@ -34,7 +34,7 @@ loop-less : tie.Need-loop-smaller invariant-loop decreases-loop
 loop-less c = search rules
 
 loop-again : tie.Need-loop-preserved invariant-loop decreases-loop
-unfolding valuesBy
+unfolding values_by
 loop-again c = (search rules, rw add-one (cc))
 
 returns : tie.Need-returns invariant-loop decreases-loop

@@ -1,6 +1,6 @@
 use borrow.Author.Rules.{rules}
 use Rattle.words.proofs.Laws.{tests}
-use Rattle.acts.specs.Core.{toSave}
+use Rattle.acts.specs.Core.{to_save}
 use Rattle.acts.proofs.Core.to_save.Statement.{statement}
 use Rattle.acts.proofs.Core.to_save.Tie as tie
 
@@ -8,11 +8,11 @@ percent-requires : tie.Need-percent-requires
 percent-requires c κs = search rules
 
 returns : tie.Need-returns
-unfolding toSave
+unfolding to_save
 returns c = search (tests, c.percent.ensures)
 
 returns-2 : tie.Need-returns-2
-unfolding toSave
+unfolding to_save
 returns-2 c = search tests
 
 pub to-save-spec : {M : Type 1} → statement M

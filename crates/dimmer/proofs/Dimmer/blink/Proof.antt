@@ -1,5 +1,5 @@
 use borrow.Author.Rules.{rules}
-use Rattle.dimmer.specs.Dimmer.{setBlinking}
+use Rattle.dimmer.specs.Dimmer.{set_blinking}
 use Rattle.dimmer.proofs.Dimmer.blink.Statement.{statement}
 use Rattle.dimmer.proofs.Dimmer.blink.Tie as tie
 
@@ -10,7 +10,7 @@ run-requires : tie.Need-run-requires
 run-requires c κs = search rules
 
 returns : tie.Need-returns
-unfolding setBlinking
+unfolding set_blinking
 returns c = cc
 
 pub blink-spec : {M : Type 1} → statement M

@@ -1,5 +1,5 @@
 use borrow.Author.Rules.{rules}
-use Rattle.dimmer.specs.Dimmer.{stopped, stoppedFrom}
+use Rattle.dimmer.specs.Dimmer.{stopped, stopped_from}
 use Rattle.dimmer.proofs.Laws.{rests}
 use Rattle.dimmer.proofs.Dimmer.stop.Statement.{statement}
 use Rattle.dimmer.proofs.Dimmer.stop.Tie as tie
@@ -23,11 +23,11 @@ returns : tie.Need-returns
 returns c = rests _ c.enum_told.given.1
 
 returns-2 : tie.Need-returns-2
-unfolding stopped stoppedFrom
+unfolding stopped stopped_from
 returns-2 c = cc
 
 returns-3 : tie.Need-returns-3
-unfolding stopped stoppedFrom
+unfolding stopped stopped_from
 returns-3 c = cc
 
 pub stop-spec : {M : Type 1} → statement M

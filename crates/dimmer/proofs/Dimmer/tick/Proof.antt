@@ -1,5 +1,5 @@
 use borrow.Author.Rules.{rules}
-use Rattle.dimmer.specs.Dimmer.{ticked, tickedFrom}
+use Rattle.dimmer.specs.Dimmer.{ticked, ticked_from}
 use Rattle.dimmer.proofs.Dimmer.tick.Statement.{statement}
 use Rattle.dimmer.proofs.Dimmer.tick.Tie as tie
 
@@ -19,15 +19,15 @@ flickered-requires : tie.Need-flickered-requires
 flickered-requires c κs = search rules
 
 returns : tie.Need-returns
-unfolding ticked tickedFrom
+unfolding ticked ticked_from
 returns c = cc
 
 returns-2 : tie.Need-returns-2
-unfolding ticked tickedFrom
+unfolding ticked ticked_from
 returns-2 c = simp (c.faded.ensures, c.before.before.motion.given.1)
 
 returns-3 : tie.Need-returns-3
-unfolding ticked tickedFrom
+unfolding ticked ticked_from
 returns-3 c = cc
 
 pub tick-spec : {M : Type 1} → statement M

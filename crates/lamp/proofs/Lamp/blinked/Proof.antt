@@ -1,10 +1,10 @@
 use mathlib.Core.Path.{refl}
-use Rattle.lamp.specs.Lamp.{signalSet}
+use Rattle.lamp.specs.Lamp.{signal_set}
 use Rattle.lamp.proofs.Lamp.blinked.Statement.{statement}
 use Rattle.lamp.proofs.Lamp.blinked.Tie as tie
 
 returns : tie.Need-returns
-unfolding signalSet
+unfolding signal_set
 returns c = refl
 
 pub blinked-spec : {M : Type 1} → statement M

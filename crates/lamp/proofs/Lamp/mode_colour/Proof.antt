@@ -1,4 +1,4 @@
-use Rattle.lamp.specs.Lamp.{modeColour}
+use Rattle.lamp.specs.Lamp.{mode_colour}
 use borrow.Author.Rules.{rules}
 use Rattle.lamp.proofs.Lamp.mode_colour.Statement.{statement}
 use Rattle.lamp.proofs.Lamp.mode_colour.Tie as tie
@@ -22,15 +22,15 @@ normal-colour-requires : tie.Need-normal-colour-requires
 normal-colour-requires c κs = search rules
 
 returns : tie.Need-returns
-unfolding modeColour
+unfolding mode_colour
 returns c = simp (c.blinking.ensures, c.before.enum_told.given.1)
 
 returns-2 : tie.Need-returns-2
-unfolding modeColour
+unfolding mode_colour
 returns-2 c = simp (c.blinking2.ensures, c.before.enum-told2.given.1)
 
 returns-3 : tie.Need-returns-3
-unfolding modeColour
+unfolding mode_colour
 returns-3 c = simp (c.normal-colour.ensures, c.before.enum-told3.given.1)
 
 pub mode-colour-spec : {M : Type 1} → statement M

@@ -1,4 +1,4 @@
-use Rattle.moves.proofs.Laws.{shifts-all}
+use Rattle.moves.proofs.Laws.{shifts_all}
 use borrow.Author.Rules.{rules}
 use Rattle.moves.proofs.shift.shift.Statement.{statement}
 use Rattle.moves.proofs.shift.shift.Tie as tie
@@ -38,7 +38,7 @@ save-requires c κs = search rules
 
 returns : tie.Need-returns
 returns c =
-    shifts-all _ _ _ _ _ _ _ _ _ _ _ _ _ _ _ _ _ c.before.before.before.before.before.before.before.before.before.before.before.before.before.before.before.before.before.before.before.before.before.before.sized.ensures c.before.before.before.before.before.before.before.before.before.before.before.before.before.before.before.before.before.before.before.before.mode-in.ensures c.before.before.before.before.before.before.before.before.before.before.before.before.before.before.before.before.before.move-on.ensures c.before.before.before.before.before.before.before.before.before.before.before.before.before.before.lamp-of.ensures c.before.before.before.before.before.before.before.before.before.before.before.before.before.tick.ensures c.before.before.before.before.before.before.before.before.before.before.before.before.entered.ensures c.before.before.before.before.before.before.before.before.before.before.keep-timers.ensures c.before.before.before.before.before.before.before.before.before.led.ensures c.before.before.before.before.before.before.before.keep-mode.ensures c.before.before.before.before.write-by.ensures c.save.ensures
+    shifts_all _ _ _ _ _ _ _ _ _ _ _ _ _ _ _ _ _ c.before.before.before.before.before.before.before.before.before.before.before.before.before.before.before.before.before.before.before.before.before.before.sized.ensures c.before.before.before.before.before.before.before.before.before.before.before.before.before.before.before.before.before.before.before.before.mode-in.ensures c.before.before.before.before.before.before.before.before.before.before.before.before.before.before.before.before.before.move-on.ensures c.before.before.before.before.before.before.before.before.before.before.before.before.before.before.lamp-of.ensures c.before.before.before.before.before.before.before.before.before.before.before.before.before.tick.ensures c.before.before.before.before.before.before.before.before.before.before.before.before.entered.ensures c.before.before.before.before.before.before.before.before.before.before.keep-timers.ensures c.before.before.before.before.before.before.before.before.before.led.ensures c.before.before.before.before.before.before.before.keep-mode.ensures c.before.before.before.before.write-by.ensures c.save.ensures
 
 pub shift-spec : {M : Type 1} → statement M
 shift-spec =

@@ -1,4 +1,4 @@
-use Rattle.moves.proofs.Laws.{writes-ten, writes-none}
+use Rattle.moves.proofs.Laws.{writes_ten, writes_none}
 use borrow.Author.Rules.{rules}
 use Rattle.moves.proofs.shift.write_in_setup.Statement.{statement}
 use Rattle.moves.proofs.shift.write_in_setup.Tie as tie
@@ -22,10 +22,10 @@ apply-requires : tie.Need-apply-requires
 apply-requires c κs = search rules
 
 returns : tie.Need-returns
-returns c = writes-ten _ _ _ _ _ _ _ c.before.before.before.before.before.before.before.before.before.if1.true c.before.before.before.before.before.before.password-of.ensures c.before.before.before.before.before.password.ensures c.before.before.before.keep-password.ensures c.apply.ensures
+returns c = writes_ten _ _ _ _ _ _ _ c.before.before.before.before.before.before.before.before.before.if1.true c.before.before.before.before.before.before.password-of.ensures c.before.before.before.before.before.password.ensures c.before.before.before.keep-password.ensures c.apply.ensures
 
 returns-2 : tie.Need-returns-2
-returns-2 c = writes-none _ _ _ c.if1.false
+returns-2 c = writes_none _ _ _ c.if1.false
 
 pub write-in-setup-spec : {M : Type 1} → statement M
 write-in-setup-spec =

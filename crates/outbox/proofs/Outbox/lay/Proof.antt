@@ -4,17 +4,17 @@ use Prim.Native.Nat.{◌≤◌, ◌-◌}
 use native.Mathlib.Omega.{arith}
 use lib.ListN.{length, take}
 use borrow.Author.Rules.{rules}
-use Rattle.model.specs.Model.{paddleCount}
-use Rattle.outbox.specs.Outbox.{lengthsIn}
+use Rattle.model.specs.Model.{paddle_count}
+use Rattle.outbox.specs.Outbox.{lengths_in}
 use Rattle.outbox.specs.Code.{noted}
 use Rattle.outbox.proofs.Laws.{filled_keeps}
-use Rattle.outbox.proofs.Laying.{length-of-mapped, counted-few, Underway, laying-begins, laying-again, laying-ends}
+use Rattle.outbox.proofs.Laying.{length_of_mapped, counted_few, Underway, laying_begins, laying_again, laying_ends}
 use Rattle.outbox.proofs.Outbox.lay.Statement.{statement}
 use Rattle.outbox.proofs.Outbox.lay.Tie as tie
 
 abbrev invariant-loop : tie.invariant-loop
 invariant-loop out₀ notes end lengths₀ count₀ i₀ out lengths count i =
-    (i ≤ end) × ((end ≤ paddleCount) × ((length notes ≡ paddleCount) × Underway (noted (take i notes)) out₀ i count lengths out))
+    (i ≤ end) × ((end ≤ paddle_count) × ((length notes ≡ paddle_count) × Underway (noted (take i notes)) out₀ i count lengths out))
 
 abbrev decreases-loop : tie.decreases-loop
 decreases-loop out₀ notes end lengths₀ count₀ i₀ out lengths count i = end - i
@@ -26,11 +26,11 @@ least-requires : tie.Need-least-requires invariant-loop decreases-loop
 least-requires c κs = search rules
 
 loop-holds : tie.Need-loop-init invariant-loop decreases-loop
-unfolding lengthsIn
+unfolding lengths_in
 loop-holds c =
     let a = c.before.before.before.before.args in
-    let whole : length a.self.notes ≡ paddleCount = search (rules, length-of-mapped) in
-    (omega arith, (omega arith, (whole, laying-begins a.self.notes a.out.now)))
+    let whole : length a.self.notes ≡ paddle_count = search (rules, length_of_mapped) in
+    (omega arith, (omega arith, (whole, laying_begins a.self.notes a.out.now)))
 
 mul-note : tie.Need-overflow-mul-note invariant-loop decreases-loop
 mul-note c = search rules
@@ -70,7 +70,7 @@ counted-requires c κs = search rules
 
 add-count : tie.Need-overflow-add-count invariant-loop decreases-loop
 add-count c =
-    let one : c.counted.result ≤ 1 = rw c.counted.ensures (counted-few _) in
+    let one : c.counted.result ≤ 1 = rw c.counted.ensures (counted_few _) in
     search rules
 
 add-i : tie.Need-overflow-add-i invariant-loop decreases-loop
@@ -91,7 +91,7 @@ loop-again c =
         loop.invariant.1.0,
         (
           loop.invariant.1.1.0,
-          laying-again a.self.notes a.out.now loop.i loop.count loop.lengths loop.out loop.invariant.1.1.1
+          laying_again a.self.notes a.out.now loop.i loop.count loop.lengths loop.out loop.invariant.1.1.1
               start.least2.result size.size.result lay.lay.result c.counted.result _ (omega arith)
               size.size.ensures start.least2.ensures lay.lay.ensures c.counted.ensures,
         ),
@@ -107,7 +107,7 @@ returns : tie.Need-returns invariant-loop decreases-loop
 returns c =
     let loop = c.before.loop in
     let a = c.before.before.before.before.before.before.args in
-    laying-ends a.self.notes a.out.now loop.i loop.count loop.lengths loop.out loop.invariant.1.1.1
+    laying_ends a.self.notes a.out.now loop.i loop.count loop.lengths loop.out loop.invariant.1.1.1
     a.self.count loop.invariant.1.1.0 (omega arith)
 
 pub lay-spec : {M : Type 1} → statement M

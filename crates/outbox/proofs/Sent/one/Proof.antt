@@ -1,6 +1,6 @@
 -- `one` meets its contract.
 use borrow.Author.Rules.{rules}
-use Rattle.outbox.specs.Outbox.{lengthsIn}
+use Rattle.outbox.specs.Outbox.{lengths_in}
 use Rattle.outbox.specs.Code.{lone}
 use Rattle.outbox.proofs.Sent.one.Statement.{statement}
 use Rattle.outbox.proofs.Sent.one.Tie as tie
@@ -12,7 +12,7 @@ counted-requires : tie.Need-counted-requires
 counted-requires c κs = search rules
 
 returns : tie.Need-returns
-unfolding lengthsIn lone
+unfolding lengths_in lone
 returns c = rw c.counted.ensures
 
 pub one_spec : {M : Type 1} → statement M

@@ -2,7 +2,7 @@ use borrow.Author.Rules.{rules}
 use Rattle.words.proofs.Laws.{tests}
 use Rattle.paddle.proofs.Gesture.none.Statement.{statement}
 use Rattle.paddle.proofs.Gesture.none.Tie as tie
-use Rattle.paddle.specs.Code.{completesNothing}
+use Rattle.paddle.specs.Code.{completes_nothing}
 
 enum_told : tie.Need-enum-told
 enum_told c = search rules
@@ -17,19 +17,19 @@ enum-told-4 : tie.Need-enum-told-4
 enum-told-4 c = search rules
 
 returns : tie.Need-returns
-unfolding completesNothing
+unfolding completes_nothing
 returns c = search tests
 
 returns-2 : tie.Need-returns-2
-unfolding completesNothing
+unfolding completes_nothing
 returns-2 c = search tests
 
 returns-3 : tie.Need-returns-3
-unfolding completesNothing
+unfolding completes_nothing
 returns-3 c = search tests
 
 returns-4 : tie.Need-returns-4
-unfolding completesNothing
+unfolding completes_nothing
 returns-4 c = search tests
 
 pub none_spec : {M : Type 1} → statement M

@@ -1,4 +1,4 @@
-use Rattle.paddle.specs.Paddle.{released, gestureUp, goesUp}
+use Rattle.paddle.specs.Paddle.{released, gesture_up, goes_up}
 use borrow.Author.Rules.{rules}
 use Rattle.paddle.proofs.Paddle.release.Statement.{statement}
 use Rattle.paddle.proofs.Paddle.release.Tie as tie
@@ -16,13 +16,13 @@ ended-requires : tie.Need-ended-requires
 ended-requires c κs = search rules
 
 returns : tie.Need-returns
-unfolding released gestureUp goesUp
+unfolding released gesture_up goes_up
 returns c =
     let goes = c.before.before in
     simp (c.ended.ensures, ← goes.before.before.moved.ensures, ← goes.before.down.ensures, ← goes.down2.ensures, c.before.if1.true)
 
 returns-2 : tie.Need-returns-2
-unfolding released gestureUp goesUp
+unfolding released gesture_up goes_up
 returns-2 c =
     let goes = c.before in
     simp (← goes.before.before.moved.ensures, ← goes.before.down.ensures, ← goes.down2.ensures, c.if1.false)

@@ -1,6 +1,6 @@
 use borrow.Author.Rules.{rules}
 use Rattle.words.proofs.Laws.{tests}
-use Rattle.places.specs.Places.{counterPlace}
+use Rattle.places.specs.Places.{counter_place}
 use Rattle.places.proofs.Counter.place.Statement.{statement}
 use Rattle.places.proofs.Counter.place.Tie as tie
 
@@ -11,11 +11,11 @@ enum-told-2 : tie.Need-enum-told-2
 enum-told-2 c = search rules
 
 returns : tie.Need-returns
-unfolding counterPlace
+unfolding counter_place
 returns c = search tests
 
 returns-2 : tie.Need-returns-2
-unfolding counterPlace
+unfolding counter_place
 returns-2 c = search tests
 
 pub place-spec : {M : Type 1} → statement M

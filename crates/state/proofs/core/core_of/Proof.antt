@@ -1,4 +1,4 @@
-use Rattle.state.specs.State.{modeIn, saveIn, core_of}
+use Rattle.state.specs.State.{mode_in, save_in, core_of}
 use borrow.Author.Rules.{rules}
 use Rattle.state.proofs.core.core_of.Statement.{statement}
 use Rattle.state.proofs.core.core_of.Tie as tie
@@ -19,7 +19,7 @@ element-copy-out-t11 : tie.Need-element-copy-out-t11
 element-copy-out-t11 c = search rules
 
 returns : tie.Need-returns
-unfolding modeIn saveIn core_of
+unfolding mode_in save_in core_of
 returns c = simp (c.before.lamp-of.ensures, c.before.before.dimmer-of.ensures, c.before.before.before.Mode-of.ensures)
 
 pub core-of-spec : {M : Type 1} → statement M

@@ -1,4 +1,4 @@
-use Rattle.state.specs.State.{levelIn, dimmerOf}
+use Rattle.state.specs.State.{level_in, dimmer_of}
 use borrow.Author.Rules.{rules}
 use Rattle.state.proofs.core.dimmer_of.Statement.{statement}
 use Rattle.state.proofs.core.dimmer_of.Tie as tie
@@ -25,7 +25,7 @@ motion-of-requires : tie.Need-motion-of-requires
 motion-of-requires c κs = search rules
 
 returns : tie.Need-returns
-unfolding levelIn dimmerOf
+unfolding level_in dimmer_of
 returns c = simp c.motion-of.ensures
 
 pub dimmer-of-spec : {M : Type 1} → statement M

@@ -1,5 +1,5 @@
 use Rattle.words.proofs.Laws.{tests}
-use Rattle.state.specs.Code.{idleIn}
+use Rattle.state.specs.Code.{idle_in}
 use borrow.Author.Rules.{rules}
 use Rattle.state.proofs.core.idle.Statement.{statement}
 use Rattle.state.proofs.core.idle.Tie as tie
@@ -8,11 +8,11 @@ element-copy-out-kind : tie.Need-element-copy-out-kind
 element-copy-out-kind c = search rules
 
 returns : tie.Need-returns
-unfolding idleIn
+unfolding idle_in
 returns c = search tests
 
 returns-2 : tie.Need-returns-2
-unfolding idleIn
+unfolding idle_in
 returns-2 c = search tests
 
 pub idle_spec : {M : Type 1} → statement M

@@ -1,4 +1,4 @@
-use Rattle.state.proofs.Laws.{core-kept}
+use Rattle.state.proofs.Laws.{core_kept}
 use borrow.Author.Rules.{rules}
 use Rattle.state.proofs.core.keep.Statement.{statement}
 use Rattle.state.proofs.core.keep.Tie as tie
@@ -20,7 +20,7 @@ keep-lamp-requires c κs = search rules
 
 returns : tie.Need-returns
 returns c =
-    core-kept _ _ _ _ _ _ _ _ _ _ _ c.before.before.before.before.before.before.before.before.before.before.keep-password.ensures c.before.before.before.before.before.before.before.before.keep-mode.ensures c.before.before.before.before.before.keep-dimmer.ensures
+    core_kept _ _ _ _ _ _ _ _ _ _ _ c.before.before.before.before.before.before.before.before.before.before.keep-password.ensures c.before.before.before.before.before.before.before.before.keep-mode.ensures c.before.before.before.before.before.keep-dimmer.ensures
     c.before.before.before.keep-save.ensures c.keep-lamp.ensures
 
 pub keep_spec : {M : Type 1} → statement M

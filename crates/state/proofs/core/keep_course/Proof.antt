@@ -1,4 +1,4 @@
-use Rattle.state.specs.Keeping.{keptCourse}
+use Rattle.state.specs.Keeping.{kept_course}
 use borrow.Author.Rules.{rules}
 use Rattle.state.proofs.core.keep_course.Statement.{statement}
 use Rattle.state.proofs.core.keep_course.Tie as tie
@@ -25,15 +25,15 @@ element-write-counters-4 : tie.Need-element-write-counters-4
 element-write-counters-4 c = search rules
 
 returns : tie.Need-returns
-unfolding keptCourse
+unfolding kept_course
 returns c = rw c.enum_told.given.1
 
 returns-2 : tie.Need-returns-2
-unfolding keptCourse
+unfolding kept_course
 returns-2 c = rw c.before.motion.given.1
 
 returns-3 : tie.Need-returns-3
-unfolding keptCourse
+unfolding kept_course
 returns-3 c = rw c.before.motion2.given.1
 
 pub keep-course-spec : {M : Type 1} → statement M

@@ -1,4 +1,4 @@
-use Rattle.state.specs.Keeping.{keptHue}
+use Rattle.state.specs.Keeping.{kept_hue}
 use borrow.Author.Rules.{rules}
 use Rattle.state.proofs.core.keep_hue.Statement.{statement}
 use Rattle.state.proofs.core.keep_hue.Tie as tie
@@ -19,7 +19,7 @@ keep-at-requires : tie.Need-keep-at-requires
 keep-at-requires c κs = search rules
 
 returns : tie.Need-returns
-unfolding keptHue
+unfolding kept_hue
 returns c = rw (c.keep_at.ensures, c.before.before.colour-number2.ensures, c.before.before.before.colour-number.ensures, c.before.before.before.before.colour-of.ensures)
 
 pub keep-hue-spec : {M : Type 1} → statement M

@@ -1,4 +1,4 @@
-use Rattle.state.specs.Keeping.{keptKind}
+use Rattle.state.specs.Keeping.{kept_kind}
 use borrow.Author.Rules.{rules}
 use Rattle.state.proofs.core.keep_kind.Statement.{statement}
 use Rattle.state.proofs.core.keep_kind.Tie as tie
@@ -19,7 +19,7 @@ keep-at-requires : tie.Need-keep-at-requires
 keep-at-requires c κs = search rules
 
 returns : tie.Need-returns
-unfolding keptKind
+unfolding kept_kind
 returns c = rw (c.keep_at.ensures, c.before.before.kind-number2.ensures, c.before.before.before.kind-number.ensures, c.before.before.before.before.motion-of.ensures)
 
 pub keep-kind-spec : {M : Type 1} → statement M

@@ -1,4 +1,4 @@
-use Rattle.state.specs.Keeping.{keptLevels}
+use Rattle.state.specs.Keeping.{kept_levels}
 use borrow.Author.Rules.{rules}
 use Rattle.state.proofs.core.keep_levels.Statement.{statement}
 use Rattle.state.proofs.core.keep_levels.Tie as tie
@@ -16,7 +16,7 @@ keep-kind-requires : tie.Need-keep-kind-requires
 keep-kind-requires c κs = search rules
 
 returns : tie.Need-returns
-unfolding keptLevels
+unfolding kept_levels
 returns c = rw (c.keep-kind.ensures, c.before.before.keep-target.ensures)
 
 pub keep-levels-spec : {M : Type 1} → statement M

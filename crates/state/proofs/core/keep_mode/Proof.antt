@@ -1,4 +1,4 @@
-use Rattle.state.specs.Keeping.{keptMode}
+use Rattle.state.specs.Keeping.{kept_mode}
 use borrow.Author.Rules.{rules}
 use Rattle.state.proofs.core.keep_mode.Statement.{statement}
 use Rattle.state.proofs.core.keep_mode.Tie as tie
@@ -19,7 +19,7 @@ keep-at-requires : tie.Need-keep-at-requires
 keep-at-requires c κs = search rules
 
 returns : tie.Need-returns
-unfolding keptMode
+unfolding kept_mode
 returns c = rw (c.keep_at.ensures, c.before.before.mode-number2.ensures, c.before.before.before.mode-number.ensures, c.before.before.before.before.Mode-of.ensures)
 
 pub keep-mode-spec : {M : Type 1} → statement M

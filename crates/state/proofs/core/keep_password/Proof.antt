@@ -1,5 +1,5 @@
 use mathlib.Core.Path.{refl}
-use Rattle.state.specs.Keeping.{keptPassword}
+use Rattle.state.specs.Keeping.{kept_password}
 use borrow.Author.Rules.{rules}
 use Rattle.state.proofs.core.keep_password.Statement.{statement}
 use Rattle.state.proofs.core.keep_password.Tie as tie
@@ -11,7 +11,7 @@ element-write-numbers-2 : tie.Need-element-write-numbers-2
 element-write-numbers-2 c = search rules
 
 returns : tie.Need-returns
-unfolding keptPassword
+unfolding kept_password
 returns c = refl
 
 pub keep-password-spec : {M : Type 1} → statement M

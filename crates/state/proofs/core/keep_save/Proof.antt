@@ -1,5 +1,5 @@
 use mathlib.Core.Path.{refl}
-use Rattle.state.specs.Keeping.{keptSave}
+use Rattle.state.specs.Keeping.{kept_save}
 use borrow.Author.Rules.{rules}
 use Rattle.state.proofs.core.keep_save.Statement.{statement}
 use Rattle.state.proofs.core.keep_save.Tie as tie
@@ -8,7 +8,7 @@ element-write-counters : tie.Need-element-write-counters
 element-write-counters c = search rules
 
 returns : tie.Need-returns
-unfolding keptSave
+unfolding kept_save
 returns c = refl
 
 pub keep-save-spec : {M : Type 1} → statement M

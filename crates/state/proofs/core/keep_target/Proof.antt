@@ -1,4 +1,4 @@
-use Rattle.state.specs.Keeping.{keptTarget}
+use Rattle.state.specs.Keeping.{kept_target}
 use borrow.Author.Rules.{rules}
 use Rattle.state.proofs.core.keep_target.Statement.{statement}
 use Rattle.state.proofs.core.keep_target.Tie as tie
@@ -16,15 +16,15 @@ enum-told-2 : tie.Need-enum-told-2
 enum-told-2 c = search rules
 
 returns : tie.Need-returns
-unfolding keptTarget
+unfolding kept_target
 returns c = rw c.enum_told.given.1
 
 returns-2 : tie.Need-returns-2
-unfolding keptTarget
+unfolding kept_target
 returns-2 c = rw c.before.motion.given.1
 
 returns-3 : tie.Need-returns-3
-unfolding keptTarget
+unfolding kept_target
 returns-3 c = rw c.enum-told2.given.1
 
 pub keep-target-spec : {M : Type 1} → statement M

@@ -1,5 +1,5 @@
 use mathlib.Core.Path.{refl}
-use Rattle.state.specs.Keeping.{keptTimers}
+use Rattle.state.specs.Keeping.{kept_timers}
 use borrow.Author.Rules.{rules}
 use Rattle.state.proofs.core.keep_timers.Statement.{statement}
 use Rattle.state.proofs.core.keep_timers.Tie as tie
@@ -17,7 +17,7 @@ element-write-counters-4 : tie.Need-element-write-counters-4
 element-write-counters-4 c = search rules
 
 returns : tie.Need-returns
-unfolding keptTimers
+unfolding kept_timers
 returns c = refl
 
 pub keep-timers-spec : {M : Type 1} → statement M

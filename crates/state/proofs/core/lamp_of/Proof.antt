@@ -1,4 +1,4 @@
-use Rattle.state.specs.State.{lampOf}
+use Rattle.state.specs.State.{lamp_of}
 use borrow.Author.Rules.{rules}
 use Rattle.state.proofs.core.lamp_of.Statement.{statement}
 use Rattle.state.proofs.core.lamp_of.Tie as tie
@@ -22,7 +22,7 @@ element-copy-out-t18 : tie.Need-element-copy-out-t18
 element-copy-out-t18 c = search rules
 
 returns : tie.Need-returns
-unfolding lampOf
+unfolding lamp_of
 returns c = simp c.before.colour-of.ensures
 
 pub lamp-of-spec : {M : Type 1} → statement M

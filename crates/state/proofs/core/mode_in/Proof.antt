@@ -1,4 +1,4 @@
-use Rattle.state.specs.State.{modeIn}
+use Rattle.state.specs.State.{mode_in}
 use borrow.Author.Rules.{rules}
 use Rattle.state.proofs.core.mode_in.Statement.{statement}
 use Rattle.state.proofs.core.mode_in.Tie as tie
@@ -10,7 +10,7 @@ mode-of-requires : tie.Need-mode-of-requires
 mode-of-requires c κs = search rules
 
 returns : tie.Need-returns
-unfolding modeIn
+unfolding mode_in
 returns c = c.Mode-of.ensures
 
 pub mode-in-spec : {M : Type 1} → statement M

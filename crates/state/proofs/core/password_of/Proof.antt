@@ -1,5 +1,5 @@
 use mathlib.Core.Path.{refl}
-use Rattle.state.specs.State.{passwordOf}
+use Rattle.state.specs.State.{password_of}
 use borrow.Author.Rules.{rules}
 use Rattle.state.proofs.core.password_of.Statement.{statement}
 use Rattle.state.proofs.core.password_of.Tie as tie
@@ -11,7 +11,7 @@ element-copy-out-t7 : tie.Need-element-copy-out-t7
 element-copy-out-t7 c = search rules
 
 returns : tie.Need-returns
-unfolding passwordOf
+unfolding password_of
 returns c = refl
 
 pub password-of-spec : {M : Type 1} → statement M

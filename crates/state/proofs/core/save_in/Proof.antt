@@ -1,5 +1,5 @@
 use mathlib.Core.Path.{refl}
-use Rattle.state.specs.State.{saveIn}
+use Rattle.state.specs.State.{save_in}
 use borrow.Author.Rules.{rules}
 use Rattle.state.proofs.core.save_in.Statement.{statement}
 use Rattle.state.proofs.core.save_in.Tie as tie
@@ -8,7 +8,7 @@ element-copy-out-result : tie.Need-element-copy-out-result
 element-copy-out-result c = search rules
 
 returns : tie.Need-returns
-unfolding saveIn
+unfolding save_in
 returns c = refl
 
 pub save-in-spec : {M : Type 1} → statement M

@@ -1,5 +1,5 @@
 use Rattle.words.proofs.Laws.{tests}
-use Rattle.state.specs.Kinds.{colourNumber}
+use Rattle.state.specs.Kinds.{colour_number}
 use borrow.Author.Rules.{rules}
 use Rattle.state.proofs.kinds.colour_number.Statement.{statement}
 use Rattle.state.proofs.kinds.colour_number.Tie as tie
@@ -17,19 +17,19 @@ enum-told-4 : tie.Need-enum-told-4
 enum-told-4 c = search rules
 
 returns : tie.Need-returns
-unfolding colourNumber
+unfolding colour_number
 returns c = search (tests, c.enum_told.given.1)
 
 returns-2 : tie.Need-returns-2
-unfolding colourNumber
+unfolding colour_number
 returns-2 c = search (tests, c.enum-told2.given.1)
 
 returns-3 : tie.Need-returns-3
-unfolding colourNumber
+unfolding colour_number
 returns-3 c = search (tests, c.enum-told3.given.1)
 
 returns-4 : tie.Need-returns-4
-unfolding colourNumber
+unfolding colour_number
 returns-4 c = search (tests, c.enum-told4.given.1)
 
 pub colour-number-spec : {M : Type 1} → statement M

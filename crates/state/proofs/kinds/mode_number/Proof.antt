@@ -1,5 +1,5 @@
 use Rattle.words.proofs.Laws.{tests}
-use Rattle.state.specs.Kinds.{modeNumber}
+use Rattle.state.specs.Kinds.{mode_number}
 use borrow.Author.Rules.{rules}
 use Rattle.state.proofs.kinds.mode_number.Statement.{statement}
 use Rattle.state.proofs.kinds.mode_number.Tie as tie
@@ -14,15 +14,15 @@ enum-told-3 : tie.Need-enum-told-3
 enum-told-3 c = search rules
 
 returns : tie.Need-returns
-unfolding modeNumber
+unfolding mode_number
 returns c = search (tests, c.enum_told.given.1)
 
 returns-2 : tie.Need-returns-2
-unfolding modeNumber
+unfolding mode_number
 returns-2 c = search (tests, c.enum-told2.given.1)
 
 returns-3 : tie.Need-returns-3
-unfolding modeNumber
+unfolding mode_number
 returns-3 c = search (tests, c.enum-told3.given.1)
 
 pub mode-number-spec : {M : Type 1} → statement M

@@ -1,5 +1,5 @@
 use Rattle.words.proofs.Laws.{tests}
-use Rattle.moves.specs.Code.{oneMore}
+use Rattle.moves.specs.Code.{one_more}
 use borrow.Author.Rules.{rules}
 use Rattle.moves.proofs.shift.Alone.one_more.Statement.{statement}
 use Rattle.moves.proofs.shift.Alone.one_more.Tie as tie
@@ -14,15 +14,15 @@ enum-told-3 : tie.Need-enum-told-3
 enum-told-3 c = search rules
 
 returns : tie.Need-returns
-unfolding oneMore
+unfolding one_more
 returns c = search (tests, c.enum_told.given.1)
 
 returns-2 : tie.Need-returns-2
-unfolding oneMore
+unfolding one_more
 returns-2 c = search (tests, c.enum-told2.given.1)
 
 returns-3 : tie.Need-returns-3
-unfolding oneMore
+unfolding one_more
 returns-3 c = search (tests, c.enum-told3.given.1)
 
 pub one-more-spec : {M : Type 1} → statement M
