@@ -85,8 +85,8 @@ refusal_number Sum n = omega arith
 refusal_number Reserved n = omega arith
 
 -- A frame that `let Frame::Read(..) = frame else` leaves is a refusal.
-pub not_read : (f : Frame) → OneOf (1 ∷ 2 ∷ 3 ∷ 4 ∷ 5 ∷ []) (tag_of the_type f) → number_of_frame f ≡ 0 → ⊥
-not_read (Read h) k z = miss (1 ∷ 2 ∷ 3 ∷ 4 ∷ 5 ∷ []) 0 tt k
+pub not_read : (f : Frame) → ((h : Header) → f ≡ Read h → ⊥) → number_of_frame f ≡ 0 → ⊥
+not_read (Read h) k z = absurd (k h refl)
 not_read Short k z = omega arith
 not_read Long k z = omega arith
 not_read Length k z = omega arith

@@ -1,0 +1,23 @@
+-- `text` meets its contract. The invariant: what is left, written on the page as it now is, makes the page that is to be.
+use mathlib.Core.Path.{refl, ◌∙◌}
+use Prim.Native.Nat.{◌-◌}
+use native.Mathlib.Omega.{arith}
+use borrow.Author.Rules.{rules}
+use lib.ListN.{drop_of_length-le}
+use Rattle.page.specs.Page.{puts}
+use Rattle.page.proofs.Laws.{text_next}
+use Rattle.page.proofs.text.Goals as goal
+
+pub loop-i-init : goal.loop-i-init
+loop-i-init c = (search rules, (refl, refl))
+
+pub loop-i-preserved : goal.loop-i-preserved
+loop-i-preserved c =
+    let loop = c.loop-i in
+    (search rules, (text_next _ loop.i _ _ (search rules) c.put-next.ensures ∙ loop.invariant.1.0, search rules))
+
+pub returns : goal.returns
+unfolding puts
+returns c =
+    let bytes = c.args.bytes.now in
+    rw (drop_of_length-le bytes {i = c.loop-i.i} (omega arith)) at c.loop-i.invariant.1.0
