@@ -3,15 +3,11 @@ use Prim.Native.Nat.{◌+◌, ◌*◌}
 use native.Mathlib.Omega.{arith}
 use Rattle.packet.specs.Layout.{second_byte}
 use Rattle.writer.proofs.Steps.{joined}
-use Rattle.writer.proofs.second.Statement.{statement}
-use Rattle.writer.proofs.second.Tie as tie
+use Rattle.writer.proofs.second.Goals as goal
 
-returns : tie.Need-returns
+pub returns : goal.returns
 unfolding second_byte
 returns c =
     let a = c.args in
     rw (joined a.count 2 a.sequence (omega arith) (omega arith))
     (joined a.request 4 (a.count * 4 + a.sequence) (omega arith) (omega arith))
-
-pub second_spec : {M : Type 1} → statement M
-second_spec = tie.close (tie.spec returns)
