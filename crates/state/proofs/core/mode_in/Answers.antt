@@ -3,4 +3,4 @@ use Rattle.state.proofs.core.mode_in.Goals as goal
 
 pub returns : goal.returns
 unfolding mode_in
-returns c = c.Mode-of.ensures
+returns c = c.mode_of.ensures
