@@ -1,6 +1,6 @@
 use borrow.Author.Rules.{rules}
 use mathlib.Core.Path.{sym}
-use Rattle.core.specs.Prelude.{◌-◌, length, drop}
+use Rattle.std.specs.Prelude.{◌-◌, length, drop}
 use native.Mathlib.Omega.{arith}
 use lib.ListN.{drop_of_length-le, length-drop}
 use lib.Seq.{take_all}
