@@ -17,4 +17,4 @@ unfolding event_of
 returns-in-Packet c = rw c.in-Packet.is
 
 pub returns-in_default : goal.returns-in_default
-returns-in_default c = sym (no_event _ c.in_default.not-Press)
+returns-in_default c = sym (no_event _ c.in_default.not-Press c.in_default.not-Release c.in_default.not-Packet)

@@ -2,7 +2,7 @@
 use mathlib.Core.Path.{refl}
 use Rattle.page.specs.Page.{puts}
 use Rattle.desk.specs.Playing.{played}
-use Rattle.desk.proofs.Playing.{told_line}
+use Rattle.desk.proofs.Playing.{IsOther, told_line}
 use Rattle.desk.proofs.play.Goals as goal
 
 pub returns-in-Pass : goal.returns-in-Pass
@@ -31,4 +31,12 @@ returns-in-Dump c = rw c.in-Dump.is (record { after = refl; written = c.show.ens
 
 pub returns-in_default : goal.returns-in_default
 returns-in_default c =
-    told_line _ _ _ _ _ _ _ _ _ _ _ _ _ c.in_default.not-Pass c.event.ensures c.tell.ensures
+    let other : IsOther c.args.line = record {
+      pass = c.in_default.not-Pass;
+      unread = c.in_default.not-Unread;
+      image = c.in_default.not-Image;
+      room = c.in_default.not-Room;
+      ticks = c.in_default.not-Ticks;
+      dump = c.in_default.not-Dump;
+    } in
+    told_line _ _ _ _ _ _ _ _ _ _ _ _ _ other c.event.ensures c.tell.ensures
