@@ -1,6 +1,7 @@
 // The core of a switch, and what a tick, a level set, a stop and a new mode make of it. The registers are only read here; what
 // is to be written to them comes back.
 #![tactic(auto)]
+
 ghost use Rattle.std.specs.Prelude.{◌≡◌};
 ghost use Rattle.timers.specs.Timers.{metronome};
 ghost use Rattle.acts.specs.Core.{save_ticks, unwritten, start_level, started, aged, to_save, saved, set_by, setting, halted, stopping, entering, signalled, opened};

@@ -1,5 +1,6 @@
 // What an event is answered with. Who writes it down needs nothing else of a switch.
 #![tactic(auto)]
+
 use lamp::Colour;
 use outbox::Sent;
 use units::Step;

@@ -19,7 +19,7 @@ use Rattle.switch.specs.Switch.{Plain, plain, answer_of, answer_with, Arrays, ar
 use Rattle.switch.specs.Respond.{Starts, whole, start_answer, started_from}
 use Rattle.answers.specs.declared.Answer.{Answer}
 use Rattle.page.specs.Page.{Page, puts}
-use Rattle.ledger.specs.Writing.{started, answered}
+use Rattle.ledger.specs.Writing.{started}
 use Rattle.line.specs.declared.Line.{Line}
 use Rattle.line.specs.declared.Line.TheVariants.{Pass, Unread, Image, Room, Press, Release, Ticks, Packet, Restart, Dump}
 use Rattle.stage.specs.declared.Desk.{Desk}

@@ -3,7 +3,6 @@ use Prim.Native.Char.{code}
 use Rattle.std.specs.Prelude.{ℕ, Bool, true, false, not, ◌&&◌, List, [], ◌∷◌, eqb, take, replicate}
 use Rattle.words.specs.Words.{if◌then◌else◌}
 use Rattle.vault.specs.declared.Password.{Password}
-use Rattle.model.specs.Model.{room}
 use Rattle.registers.specs.Registers.{image_of}
 use Rattle.state.specs.State.{counter_count, number_count, password_of}
 use Rattle.panel.specs.Panel.{byte_count}

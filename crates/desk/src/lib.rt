@@ -1,5 +1,6 @@
 // What a line of a script does to the switch on the desk, and what is written of it.
 #![tactic(auto)]
+
 ghost use Rattle.std.specs.Prelude.{◌≡◌, List, ℕ};
 ghost use Rattle.state.specs.State.{password_of};
 ghost use Rattle.page.specs.Page.{page_of, puts};

@@ -1,5 +1,6 @@
 // The dimmer: its level, the Last On Level, and what moves the level. Methods take the state and hand the next one back.
 #![tactic(auto)]
+
 ghost use Rattle.std.specs.Prelude.{◌≡◌};
 ghost use Rattle.dimmer.specs.Dimmer.{heading_to, fresh_dimmer, set_to, stopped, set_blinking, towards, flipped, stepped, faded, flickered, ticked};
 

@@ -20,7 +20,7 @@ use Rattle.paddle.specs.declared.Paddle.{Paddle}
 use Rattle.paddle.specs.Code.{completes_nothing}
 use Rattle.model.specs.Model.{contact_count, kind_of, paddle_of, room}
 use Rattle.writes.specs.Writes.{applied, change_of, change_at}
-use Rattle.acts.specs.Core.{core, signalled, stopping, unwritten, with_dimmer}
+use Rattle.acts.specs.Core.{signalled, stopping, unwritten, with_dimmer}
 use Rattle.gestures.specs.Gestures.{acted, acted_in, acted_in_factory, acted_in_normal, acted_in_setup}
 use Rattle.acts.specs.declared.Core.{Core}
 use Rattle.herald.specs.Herald.{announced}
@@ -41,7 +41,7 @@ use Rattle.panel.specs.Code.{Lifts}
 use Rattle.state.proofs.Laws.{dimmer_lamp, hue_same, lamp_of_course, lamp_of_levels, timers_same}
 use Rattle.turns.specs.Turns.{Moment, after, moment, turned}
 use Rattle.turns.proofs.Laws.{followed_nothing}
-use Rattle.switch.specs.Switch.{answer_with, event, plain, press, release, switch_of}
+use Rattle.switch.specs.Switch.{answer_with, event, press, release, switch_of}
 use Rattle.switch.specs.Events.{finished, job_of_deed, job_of_release}
 use Rattle.switch.specs.Respond.{Responds, respond}
 use Rattle.switch.specs.Code.{signalled_on}

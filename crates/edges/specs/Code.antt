@@ -3,7 +3,7 @@ use Rattle.std.specs.Prelude.{ℕ, List}
 use Rattle.vault.specs.declared.Mode.{Mode}
 use Rattle.vault.specs.declared.Mode.TheVariants.{Normal, Setup, Factory}
 use Rattle.dimmer.specs.declared.Dimmer.{Dimmer}
-use Rattle.acts.specs.Core.{core, halted}
+use Rattle.acts.specs.Core.{halted}
 use Rattle.outbox.specs.Outbox.{tally}
 use Rattle.outbox.specs.declared.Sent.{Sent}
 use Rattle.outbox.specs.Code.{Sends}

@@ -1,5 +1,6 @@
 // Press and release edges of the contacts.
 #![tactic(auto)]
+
 ghost use Rattle.std.specs.Prelude.{◌≡◌, []};
 ghost use Rattle.vault.specs.Job.{nothing};
 ghost use Rattle.paddle.specs.declared.Gesture.TheVariants.{Release};

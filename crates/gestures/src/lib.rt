@@ -1,5 +1,6 @@
 // What a paddle's gesture does by the mode it finds. The paddle is known by its number; `model` says what it is to the load.
 #![tactic(auto)]
+
 ghost use Rattle.std.specs.Prelude.{◌≡◌};
 ghost use Rattle.gestures.specs.Gestures.{acted, acted_in_normal, acted_in_setup, acted_in_factory, taps_in_normal, taps_in_setup, taps_in_factory, by_action, holding, far};
 

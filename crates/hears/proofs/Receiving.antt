@@ -1,5 +1,5 @@
 -- A received packet, over what its callees promise.
-use Rattle.std.specs.Prelude.{◌≡◌, ℕ, ◌≤◌, Bool, true, false, cond, List, [], ◌∷◌, length, drop}
+use Rattle.std.specs.Prelude.{◌≡◌, ℕ, ◌≤◌, Bool, true, false, cond, List, [], length, drop}
 use mathlib.Core.Path.{refl, sym, ap, subst, ◌∙◌}
 use native.Mathlib.Omega.{arith}
 use Rattle.units.specs.Units.{percent_of}
@@ -20,10 +20,9 @@ use Rattle.model.specs.Model.{place, room}
 use Rattle.judge.specs.Judge.{judged}
 use Rattle.judge.specs.declared.Order.{Order}
 use Rattle.judge.specs.declared.Order.TheVariants as order
-use Rattle.acts.specs.Core.{core, opened, signalled, unwritten}
+use Rattle.acts.specs.Core.{opened, signalled, unwritten}
 use Rattle.acts.specs.declared.Core.{Core}
 use Rattle.writes.specs.Writes.{applied, change_of, change_at}
-use Rattle.registers.specs.declared.Seen.TheVariants as seen
 use Rattle.post.specs.Post.{enveloped, replied, reply_message}
 use Rattle.outbox.specs.Outbox.{placed, tally}
 use Rattle.post.specs.declared.Reply.TheVariants as reply
@@ -41,7 +40,7 @@ use Rattle.obey.specs.Code.{Obeys, Ready, effect_of, hue_by, reply_of}
 use Rattle.verdict.specs.declared.Verdict.{Verdict}
 use Rattle.verdict.specs.declared.Verdict.TheVariants.{Stop, Go}
 use Rattle.obey.proofs.Laws.{hue_told}
-use Rattle.switch.specs.Switch.{Plain, Shown, answer_with, event, plain, receive, switch_of}
+use Rattle.switch.specs.Switch.{Plain, Shown, answer_with, event, receive, switch_of}
 use Rattle.switch.specs.Events.{garbled, job_of_bytes, job_of_deed, job_of_frame, job_of_guess, job_of_order, job_of_read, job_of_work, outcome_of, plain_after, refused}
 use Rattle.switch.specs.Respond.{Responds, respond}
 use Rattle.switch.specs.Code.{told}

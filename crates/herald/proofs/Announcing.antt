@@ -9,7 +9,6 @@ use lib.ListN.{length, get_or}
 use Rattle.words.specs.Words.{if◌then◌else◌}
 use Rattle.words.proofs.Laws.{both}
 use Rattle.units.specs.declared.Percent.{Percent}
-use Rattle.packet.specs.Layout.{header}
 use Rattle.places.specs.Places.{network_in, unit_in, transmit_in, entry_place, entry_in}
 use Rattle.registers.specs.Registers.{valid, apart}
 use Rattle.post.specs.Post.{headed, enveloped, bytes_of, values_from, reply_message, replied}

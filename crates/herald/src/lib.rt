@@ -1,5 +1,6 @@
 // What a paddle's gesture sends: a link packet, noted with the registers as they stand.
 #![tactic(auto)]
+
 ghost use Rattle.std.specs.Prelude.{◌≡◌};
 ghost use Rattle.herald.specs.Herald.{command_number, gesture_number, chosen, trimmed, takes_level};
 ghost use Rattle.herald.specs.Code.{note_of};

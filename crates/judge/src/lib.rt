@@ -1,6 +1,7 @@
 // What a packet asks for: the checks 9 to 13 in their order, and the command with its arguments taken apart. The
 // switch's own password does not come here.
 #![tactic(auto)]
+
 ghost use Rattle.std.specs.Prelude.{◌≡◌};
 ghost use Rattle.judge.specs.Judge.{driving, going, ordered, commanded, judged};
 

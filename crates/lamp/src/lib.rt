@@ -1,5 +1,6 @@
 // The lamp in the paddle and the flash of the output: what shows, by the timers that run, the mode and the level.
 #![tactic(auto)]
+
 ghost use Rattle.std.specs.Prelude.{◌≡◌};
 ghost use Rattle.lamp.specs.Lamp.{fresh_lamp, signal_set, entered, next_lamp, colour, output};
 ghost use Rattle.lamp.specs.Lamp.{mode_colour, version_colour, bit_of, bit_colour, by_halves, normal_colour, diagnostic, diagnosed, by_level, colour_of_bits, inverted};

@@ -1,5 +1,6 @@
 // What is written of a start and of an event, on a page.
 #![tactic(auto)]
+
 ghost use Rattle.std.specs.Prelude.{◌≡◌, ◌≤◌, length};
 ghost use Rattle.model.specs.Model.{paddle_count};
 ghost use Rattle.page.specs.Page.{page_of, puts, spaced};

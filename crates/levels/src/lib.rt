@@ -1,5 +1,6 @@
 // What the bytes that set a level stand for: the options, a rate's ticks, the target, what is remembered of it, and a Blink's value.
 #![tactic(auto)]
+
 ghost use Rattle.std.specs.Prelude.{◌≡◌};
 ghost use Rattle.levels.specs.Levels.{options_of, ticks_per_step, wanted, allowed, remembered, rate_of, flip_ticks};
 

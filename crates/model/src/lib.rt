@@ -1,6 +1,7 @@
 // What a switch of this model is made of: its paddles and contacts, where each paddle's registers begin, and the places of the
 // answer buffer. Nothing else says any of this again.
 #![tactic(auto)]
+
 ghost use Rattle.std.specs.Prelude.{◌≡◌};
 ghost use Rattle.model.specs.Model.{paddle_of, kind_of, is_top, drives, transmit_place, action_place};
 

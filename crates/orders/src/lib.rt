@@ -1,5 +1,6 @@
 // What a packet's work is made of: what a drive does to the dimmer, and what a Store writes.
 #![tactic(auto)]
+
 ghost use Rattle.std.specs.Prelude.{◌≡◌};
 ghost use Rattle.orders.specs.Orders.{driven, stored};
 

@@ -1,6 +1,7 @@
 // What an edge or a tick has to send: its notes in the order they arose, laid into the places of the answer buffer one after the
 // other, and counted.
 #![tactic(auto)]
+
 ghost use Rattle.std.specs.Prelude.{◌≡◌, [], min, length};
 ghost use Rattle.outbox.specs.Outbox.{tally};
 ghost use Rattle.post.specs.Code.{sent_of, front};

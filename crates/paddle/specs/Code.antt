@@ -4,7 +4,7 @@ use Rattle.paddle.specs.declared.Gesture.{Gesture}
 use Rattle.paddle.specs.declared.Gesture.TheVariants.{Nothing, Taps, Hold, Release}
 use Rattle.paddle.specs.declared.Paddle.{Paddle}
 use Rattle.paddle.specs.declared.Turn.{Turn}
-use Rattle.paddle.specs.Paddle.{paddle, gesture, fresh_paddle, pressed, released, gesture_up, completed}
+use Rattle.paddle.specs.Paddle.{gesture, fresh_paddle, pressed, released, gesture_up, completed}
 use Rattle.paddle.specs.declared.Contact.{Contact}
 use Rattle.paddle.specs.Promises.{after, never, Wait, wait, paddle_ticks}
 use Rattle.words.specs.Words.{if◌then◌else◌}

@@ -1,6 +1,7 @@
 // One paddle: edges in, gestures out; its ticks are run where the paddles' bytes are (panel). Nothing here knows which paddle of the
 // switch it is.
 #![tactic(auto)]
+
 ghost use Rattle.std.specs.Prelude.{◌≡◌};
 ghost use Rattle.paddle.specs.Paddle.{fresh_paddle, down, pressed, released, gesture_up, with_contact, hold_from, ended, ending, tapped, one_tap_more};
 ghost use Rattle.paddle.specs.Code.{turn, completes_nothing};

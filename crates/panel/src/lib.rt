@@ -2,6 +2,7 @@
 // paddle in order its contacts, then of each its taps, then hold, then gap. Of contacts bit 0 says that the local one is down and
 // bit 1 that the slave one is; the bits above them say nothing.
 #![tactic(auto)]
+
 ghost use Rattle.std.specs.Prelude.{◌≡◌, ◌<◌};
 ghost use Rattle.paddle.specs.Paddle.{gesture};
 ghost use Rattle.model.specs.Model.{paddle_count};

@@ -1,5 +1,6 @@
 // Where everything stands among the registers: each named place is read by one function.
 #![tactic(auto)]
+
 ghost use Rattle.std.specs.Prelude.{◌≡◌};
 ghost use Rattle.places.specs.Places.{network_in, unit_in, digit_in, link_place, level_place, component_in, transmit_in};
 ghost use Rattle.places.specs.Places.{single_in, double_in, light_in, dimming_in, entry_place, entry_in, saved_in, counter_place};

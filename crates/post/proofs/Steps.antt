@@ -13,7 +13,6 @@ use Rattle.writer.specs.declared.Written.{Written}
 use Rattle.writer.specs.declared.Written.TheVariants.{Packet, Field, Short}
 use Rattle.writer.proofs.Laws.{written_length, exactly_written}
 use Rattle.packet.proofs.Laws.{packed_length}
-use Rattle.writer.specs.contracts.Written.{the_type}
 use Rattle.registers.specs.Registers.{range_of}
 use Rattle.registers.specs.declared.Seen.{Seen}
 use Rattle.post.specs.Post.{enveloped, values_from}

@@ -1,5 +1,6 @@
 // What a switch sends: a link packet, noted while its event goes on and laid at its end, and a reply to a packet.
 #![tactic(auto)]
+
 ghost use Rattle.std.specs.Prelude.{◌≡◌, ◌≤◌, min, false, length};
 ghost use Rattle.packet.specs.Layout.{header};
 ghost use Rattle.post.specs.Post.{replied, values_from, headed, enveloped};

@@ -58,7 +58,7 @@ use Rattle.orders.specs.Code.{work_writes}
 use Rattle.post.specs.declared.Reply.TheVariants as reply
 use Rattle.panel.specs.Panel.{gesture_at, paddle_at}
 use Rattle.turns.specs.Turns.{Moment, after, turned, turns}
-use Rattle.switch.specs.Switch.{Deed, Event, Plain, Shown, event, press, receive, release, restart, tick}
+use Rattle.switch.specs.Switch.{Deed, Event, Plain, Shown, press, receive, release, restart, tick}
 use Rattle.switch.specs.Events.{SwitchJob, outcome_of, begun, job_of_deed, finished, garbled, job_of_read, job, known, plain_after, job_of_work, job_of_guess, job_of_order, job_of_press, job_of_frame, job_of_bytes, refused, job_of_release, job_of_restart, signalled_by, job_of_tick, woken}
 use Rattle.switch.specs.Respond.{respond}
 use Rattle.promises.specs.Bounds.{Sane}

@@ -43,7 +43,7 @@ use Rattle.post.specs.declared.Reply.TheVariants as reply
 use Rattle.herald.proofs.Announcing.{announces}
 use Rattle.panel.specs.Panel.{gesture_at, paddle_at, pressed_at, released_at}
 use Rattle.turns.specs.Turns.{after, turned}
-use Rattle.switch.specs.Switch.{Deed, Event, Plain, Shown, answer_of, answer_with, event, plain, press, receive, release, restart, shown, tick}
+use Rattle.switch.specs.Switch.{Deed, Event, Plain, Shown, answer_of, answer_with, event, press, receive, release, restart, shown, tick}
 use Rattle.switch.specs.Events.{SwitchJob, outcome_of, job_of_deed, finished, garbled, job_of_read, job, known, job_of_work, job_of_guess, job_of_order, job_of_press, job_of_frame, job_of_bytes, refused, job_of_release, job_of_restart, signalled_by, job_of_tick}
 use Rattle.switch.specs.Respond.{no_answer, start_answer, started_from, wall_switch}
 use Rattle.promises.proofs.Jobs.{press_job, release_job}

@@ -24,7 +24,7 @@ use Rattle.model.specs.Model.{kind_of, paddle_of, room, paddle_count}
 use Rattle.acts.specs.Core.{started}
 use Rattle.gestures.specs.Gestures.{leads}
 use Rattle.panel.specs.Panel.{gesture_at, paddle_at, pressed_at, released_at, fresh_from}
-use Rattle.switch.specs.Switch.{Event, Plain, press, release, tick}
+use Rattle.switch.specs.Switch.{Event, Plain, press, release}
 use Rattle.switch.specs.Events.{begun, job_of_deed, finished, job, known, job_of_press, job_of_release, signalled_by, woken}
 use Rattle.switch.specs.Respond.{respond, started_from}
 use Rattle.promises.specs.Ticking.{press_of, run_of, ticks_of, with_room}

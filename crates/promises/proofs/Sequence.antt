@@ -16,7 +16,6 @@ use Rattle.panel.proofs.Laws.{paddles_length}
 use Rattle.switch.specs.Switch.{Plain, Shown, switch_of}
 use Rattle.switch.specs.Respond.{Leaves, respond, start_answer, started_from}
 use Rattle.answers.specs.declared.Answer.{Answer}
-use Rattle.switch.specs.Code.{told}
 use Rattle.host.proofs.Laws.{mirrors_back}
 use Rattle.promises.specs.Bounds.{Sane}
 use Rattle.promises.specs.Demand3.{event_of, filled}

@@ -1,5 +1,6 @@
 // Whom a packet reaches, and which commands it may bring there: the checks 9, 10 and 13.
 #![tactic(auto)]
+
 ghost use Rattle.std.specs.Prelude.{◌≡◌};
 ghost use Rattle.vault.specs.Vault.{in_setup};
 ghost use Rattle.reach.specs.Reach.{heard, directly, matching, target_of, reached, to_us, direct_to, by_link, is_normal, permitted, component_of};

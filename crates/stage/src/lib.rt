@@ -1,5 +1,6 @@
 // The switch on the desk: an event happens to it, and what it answers is written.
 #![tactic(auto)]
+
 ghost use Rattle.std.specs.Prelude.{◌≡◌, min};
 ghost use Rattle.switch.specs.Switch.{tick};
 ghost use Rattle.switch.specs.Respond.{Responds};

@@ -7,6 +7,7 @@
 // Motion 0: idle, 1: fading, 2: blinking. Mode 0: Normal, 1: Setup, 2: Factory. Colour 0: black, 1: red, 2: green, 3: orange.
 // A number that stands for nothing is read as the first of its list.
 #![tactic(auto)]
+
 ghost use Rattle.std.specs.Prelude.{◌≡◌, length};
 ghost use Rattle.state.specs.Code.{Sized};
 

@@ -23,8 +23,7 @@ use Rattle.judge.specs.Judge.{judged}
 use Rattle.judge.specs.declared.Order.{Order}
 use Rattle.judge.specs.declared.Order.TheVariants as order
 use Rattle.judge.specs.declared.Work.{Work}
-use Rattle.judge.specs.declared.Work.TheVariants as work
-use Rattle.acts.specs.Core.{core, unwritten, started, aged, saved, opened, signalled}
+use Rattle.acts.specs.Core.{unwritten, started, aged, saved, opened, signalled}
 use Rattle.orders.specs.Orders.{performed}
 use Rattle.acts.specs.declared.Core.{Core}
 use Rattle.acts.specs.declared.Effect.{Effect}

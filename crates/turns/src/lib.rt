@@ -1,5 +1,6 @@
 // What the paddles' gestures do within one event: each acts on what the one before it has left, and notes what it sends.
 #![tactic(auto)]
+
 ghost use Rattle.std.specs.Prelude.{[]};
 ghost use Rattle.vault.specs.Job.{nothing};
 ghost use Rattle.outbox.specs.Code.{packets_in};

@@ -1,7 +1,7 @@
 -- What the code and the proofs are cut by: no promise under the roof needs a definition of this file.
 use Rattle.vault.specs.Job.{Job, Byte, compare, done, kept, put, reveal}
 use Rattle.vault.specs.Vault.{in_setup}
-use Rattle.vault.specs.Product.{Product, Site, machine}
+use Rattle.vault.specs.Product.{Product, Site}
 use Rattle.std.specs.Prelude.{true, false, ◌≡◌}
 
 -- The job reveals nothing.

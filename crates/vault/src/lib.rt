@@ -1,5 +1,6 @@
 // The three modes, the network password, and the comparison of a guess with it.
 #![tactic(auto)]
+
 ghost use Rattle.std.specs.Prelude.{◌≡◌};
 ghost use Rattle.vault.specs.Vault.{matches};
 

@@ -1,5 +1,6 @@
 // The commands: their numbers, and what arguments each takes.
 #![tactic(auto)]
+
 ghost use Rattle.std.specs.Prelude.{◌≡◌};
 ghost use Rattle.verbs.specs.Verbs.{verb_of, listed, argument, optional, arguments, registers_in_range, values, suits};
 

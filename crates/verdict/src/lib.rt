@@ -1,5 +1,6 @@
 // Whether a packet's order is granted, and what of the password a reading is handed.
 #![tactic(auto)]
+
 ghost use Rattle.std.specs.Prelude.{◌≡◌};
 ghost use Rattle.verdict.specs.Code.{verdict_on, verdict_of, seen_by};
 

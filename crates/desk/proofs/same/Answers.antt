@@ -1,6 +1,5 @@
 -- `same` meets its contract. The invariant: what is left of both answers for the whole.
 use mathlib.Core.Path.{refl, sym}
-use Prim.Native.Nat.{◌-◌}
 use native.Mathlib.Omega.{arith}
 use borrow.Author.Rules.{rules}
 use lib.ListN.{drop_of_length-le}

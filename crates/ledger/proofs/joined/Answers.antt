@@ -1,6 +1,5 @@
 -- `joined` meets its contract. The invariant: the packets that are left, written on the page as it now is, make the page that is to be.
 use mathlib.Core.Path.{refl, ◌∙◌}
-use Prim.Native.Nat.{◌-◌}
 use native.Mathlib.Omega.{arith}
 use borrow.Author.Rules.{rules}
 use lib.ListN.{drop_of_length-le}

@@ -1,10 +1,8 @@
 -- `kept` meets its contract. The invariant: the places that are left answer for the whole.
 use mathlib.Core.Path.{refl}
-use Prim.Native.Nat.{◌-◌}
 use native.Mathlib.Omega.{arith}
 use borrow.Author.Rules.{rules}
 use borrow.Author.Tests.{not-true, not-false}
-use Rattle.ledger.specs.Writing.{untouched}
 use Rattle.ledger.proofs.Writing.{outside_next, outside_end}
 use Rattle.ledger.proofs.kept.Goals as goal
 

@@ -1,7 +1,6 @@
 -- `untouched` meets its contract. The invariant: what was seen and what is left answer for the whole.
 use mathlib.Core.Bool.{and-true}
 use mathlib.Core.Path.{refl, sym, ◌∙◌}
-use Prim.Native.Nat.{◌-◌}
 use native.Mathlib.Omega.{arith}
 use borrow.Author.Rules.{rules}
 use lib.ListN.{drop_of_length-le}
