@@ -1,5 +1,6 @@
 // A line of a script read: what it says, and the bytes that its hex stands for.
 #![tactic(auto)]
+
 ghost use Rattle.std.specs.Prelude.{◌≡◌, ◌≤◌, ◌/◌, true, length, drop};
 ghost use Rattle.line.specs.declared.Number.TheVariants.{Is};
 ghost use Rattle.line.specs.Reading.{bare, gap, blank, digit_of, digits, value, within, number_of, hex, hex_of, image_of, dash, packet_of};

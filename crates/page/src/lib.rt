@@ -1,6 +1,7 @@
 // What is written, on a page: lent bytes, and the place where the next one goes. Each function answers the place behind what it
 // wrote; what has no room is left out.
 #![tactic(auto)]
+
 ghost use Rattle.std.specs.Prelude.{◌≡◌, ◌<◌, [], ◌∷◌, take, drop};
 ghost use Rattle.page.specs.Page.{page_of, puts, word, digits, hex_digit, hex_of, spaced, listed, run, dump, none, unread};
 

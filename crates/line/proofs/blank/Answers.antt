@@ -1,7 +1,5 @@
 -- `blank` meets its contract. The invariant: what is left is blank where the whole is.
-use Prim.Native.Nat.{◌-◌}
 use borrow.Author.Rules.{rules}
-use borrow.Author.Tests.{not-true, not-false}
 use lib.ListN.{drop_of_length-le}
 use Rattle.line.specs.Reading.{blank}
 use Rattle.line.proofs.Reading.{blank_drop}
@@ -10,12 +8,12 @@ use Rattle.line.proofs.blank.Goals as goal
 pub returns-then-not-gap : goal.returns-then-not-gap
 returns-then-not-gap c =
     let loop = c.loop-i in
-    rw (← loop.invariant.1, blank_drop c.args.text.now loop.i (search rules), ← c.gap.ensures, not-true c.gap.result c.if-not-gap.true-raw)
+    rw (← loop.invariant.1, blank_drop c.args.text.now loop.i (search rules), ← c.gap.ensures, c.if-not-gap.true)
 
 pub loop-i-preserved : goal.loop-i-preserved
 loop-i-preserved c =
     let loop = c.loop-i in
-    (search rules, rw (← loop.invariant.1, blank_drop c.args.text.now loop.i (search rules), ← c.gap.ensures, not-false c.gap.result c.if-not-gap.false-raw))
+    (search rules, rw (← loop.invariant.1, blank_drop c.args.text.now loop.i (search rules), ← c.gap.ensures, c.if-not-gap.false))
 
 pub returns : goal.returns
 unfolding blank

@@ -9,9 +9,9 @@ returns-in_default c = rw (← c.limit.ensures, ← c.decimal-number.ensures, c.
 
 pub numbered-requires : goal.numbered-requires
 numbered-requires c =
-    letter_within _ _ _ _ _ c.limit.ensures c.decimal-number.ensures c.number-1.given.1
+    letter_within _ _ _ _ _ c.limit.ensures c.decimal-number.ensures c.in-Is.is
 
 pub returns : goal.returns
 unfolding counted
 returns c =
-    rw (c.numbered.ensures, ← c.limit.ensures, ← c.decimal-number.ensures, c.number-1.given.1)
+    rw (c.numbered.ensures, ← c.limit.ensures, ← c.decimal-number.ensures, c.in-Is.is)

@@ -9,8 +9,8 @@ returns-then-text-eq0 c = search tests
 
 pub returns-then-not-digits : goal.returns-then-not-digits
 unfolding number_of
-returns-then-not-digits c = search (tests, ← c.digits.ensures, c.if-not-digits.true-raw)
+returns-then-not-digits c = search (tests, ← c.digits.ensures, c.if-not-digits.true)
 
 pub returns : goal.returns
 unfolding number_of
-returns c = search (tests, ← c.digits.ensures, c.if-not-digits.false-raw, c.value.ensures)
+returns c = search (tests, ← c.digits.ensures, c.if-not-digits.false, c.value.ensures)

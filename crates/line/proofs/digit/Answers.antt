@@ -26,7 +26,7 @@ returns-in_default c =
 
 pub returns-in_default-2 : goal.returns-in_default-2
 unfolding digit_of
-returns-in_default-2 c = omega arith in search tests
+returns-in_default-2 c = let lower : c.args.byte < 0x61 = omega arith in search tests
 
 pub returns-in_default-3 : goal.returns-in_default-3
 unfolding digit_of

@@ -1,5 +1,4 @@
 -- `digits` meets its contract. The invariant: what is left are digits where the whole are.
-use Prim.Native.Nat.{◌-◌}
 use borrow.Author.Rules.{rules}
 use borrow.Author.Tests.{lt-ltb, le-ltb}
 use lib.ListN.{drop_of_length-le}

@@ -1,5 +1,5 @@
 -- `lay` meets its contract. The invariant: as many bytes as were counted stand in front, and the rest are as they were.
-use Prim.Native.Nat.{◌-◌, ◌/◌}
+use Prim.Native.Nat.{◌/◌}
 use native.Mathlib.Omega.{arith}
 use mathlib.Core.Path.{◌≡◌}
 use borrow.Author.Rules.{rules}

@@ -7,7 +7,7 @@ use Rattle.line.proofs.said.Goals as goal
 
 pub returns-then-blank : goal.returns-then-blank
 unfolding said bytes_of laid
-returns-then-blank c = refl }
+returns-then-blank c = record { answered = rw (← c.blank.ensures, c.if-blank.true); bytes = refl }
 
 pub bounds-line-0 : goal.bounds-line-0
 bounds-line-0 c = not_blank _ (sym c.blank.ensures ∙ c.if-blank.false)

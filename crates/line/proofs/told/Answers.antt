@@ -1,4 +1,5 @@
 -- `told` meets its contract: each letter hands its argument on.
+use Rattle.words.proofs.Laws.{tests}
 use Rattle.line.specs.Reading.{told}
 use Rattle.line.proofs.Reading.{counted_bytes, no_bytes}
 use Rattle.line.proofs.told.Goals as goal
@@ -13,4 +14,5 @@ returns-in-107 c = rw c.in-107.is c.packet.ensures
 
 pub returns-in_default : goal.returns-in_default
 unfolding told
-returns-in_default c = no_bytes _ _ _ (rw c.counted.ensures (counted_bytes _ _ _)) }
+returns-in_default c =
+    record { answered = search (tests, c.counted.ensures); bytes = no_bytes _ _ _ (rw c.counted.ensures (counted_bytes _ _ _)) }

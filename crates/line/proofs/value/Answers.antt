@@ -1,5 +1,4 @@
 -- `value` meets its contract. The invariant: what is left, behind what was read, is worth what the whole is.
-use Prim.Native.Nat.{◌-◌}
 use mathlib.Core.Path.{sym}
 use borrow.Author.Rules.{rules}
 use lib.ListN.{drop_of_length-le}

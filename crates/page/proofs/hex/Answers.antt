@@ -1,6 +1,5 @@
 -- `hex` meets its contract. The invariant: what is left, written in hex on the page as it now is, makes the page that is to be.
 use mathlib.Core.Path.{refl, ◌∙◌}
-use Prim.Native.Nat.{◌-◌}
 use native.Mathlib.Omega.{arith}
 use borrow.Author.Rules.{rules}
 use lib.ListN.{drop_of_length-le}
@@ -10,9 +9,6 @@ use Rattle.page.proofs.hex.Goals as goal
 
 pub loop-i-init : goal.loop-i-init
 loop-i-init c = (search rules, (refl, refl))
-
-pub hex_digit-requires : goal.hex_digit-requires
-hex_digit-requires c = omega (arith, c.shared_slice_known-in-loop-i-1.given c.loop-i.i)
 
 pub loop-i-preserved : goal.loop-i-preserved
 loop-i-preserved c =

@@ -1,6 +1,5 @@
 -- `text` meets its contract. The invariant: what is left, written on the page as it now is, makes the page that is to be.
 use mathlib.Core.Path.{refl, ◌∙◌}
-use Prim.Native.Nat.{◌-◌}
 use native.Mathlib.Omega.{arith}
 use borrow.Author.Rules.{rules}
 use lib.ListN.{drop_of_length-le}
