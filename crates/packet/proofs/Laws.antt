@@ -7,8 +7,6 @@ use mathlib.Core.Path.{◌≡◌, refl, ap, subst}
 use borrow.Author.Tests.{le-ltb, ltb-true, ltb-false, eqb-true, eqb-false, not-true, not-false}
 use lib.Dec.{ltb, eqb}
 use lib.ListN.{length, get_or, take, drop, length-append, length-take, length-drop}
-use types.Run.{OneOf, miss}
-use denote.Enum.Declared.{tag_of}
 use Rattle.words.specs.Words.{Bytes}
 use Rattle.words.proofs.Laws.{tests, cases}
 use Rattle.packet.specs.declared.Header.{Header}

@@ -1,13 +1,11 @@
 -- What the proofs of the functions lean on: the writer's promise as a promise of laying, and a buffer with values read into it.
 use mathlib.Core.Bool.{Bool}
 use mathlib.Core.List.{List, [], ◌∷◌, ◌++◌}
-use mathlib.Core.Path.{◌≡◌, sym, ◌∙◌, subst}
+use mathlib.Core.Path.{◌≡◌, refl, sym, ◌∙◌, subst}
 use Prim.Native.Nat.{ℕ, suc, ◌+◌, ◌-◌, ◌≤◌, min}
 use native.Mathlib.Omega.{arith}
 use lib.ListN.{length, take, replicate, length-append, length-take}
 use lib.Seq.{take_at, length-take-le}
-use types.Run.{OneOf, miss}
-use denote.Enum.Declared.{tag_of}
 use Rattle.packet.specs.Layout.{header, packed}
 use Rattle.writer.specs.Writing.{Wrote, laid}
 use Rattle.packet.specs.declared.Header.{Header}
@@ -38,11 +36,11 @@ module _ (link : Bool) (network destination source : ℕ) (before after : List �
         bytes = w.bytes ∙ sym (placed_whole (packed h (b ∷ bs)) before (omega arith) ∙ rw long);
       }
 
-  pub wrote_nothing : (m : List ℕ) (w : Written) → length m ≤ 18 → OneOf (1 ∷ 2 ∷ []) (tag_of the_type w)
+  pub wrote_nothing : (m : List ℕ) (w : Written) → length m ≤ 18 → ((n : ℕ) → w ≡ Packet n → ⊥)
       → Wrote (header link network destination source) m before w after
       → Laid (enveloped (header link network destination source) m) before 0 after
   unfolding enveloped front laid
-  wrote_nothing m (Packet n) most k w = absurd (miss (1 ∷ 2 ∷ []) 0 tt k)
+  wrote_nothing m (Packet n) most k w = absurd (k n refl)
   wrote_nothing [] Field most k w = rw w.bytes (nothing_laid before)
   wrote_nothing [] Short most k w = rw w.bytes (nothing_laid before)
   wrote_nothing (b ∷ bs) Field most k w =

@@ -12,7 +12,7 @@ returns-else-to_us c = c.if-to_us.false ∙ rw (c.in-Open.is, ← c.to_us.ensure
 
 pub returns-then-direct : goal.returns-then-direct
 unfolding permitted
-returns-then-direct c = c.in_setup_lem.ensures ∙ rw (c.in-Close.is, ← c.direct.ensures, c.if-direct.true)
+returns-then-direct c = c.in_setup.ensures ∙ rw (c.in-Close.is, ← c.direct.ensures, c.if-direct.true)
 
 pub returns-else-direct : goal.returns-else-direct
 unfolding permitted

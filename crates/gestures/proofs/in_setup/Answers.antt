@@ -1,0 +1,18 @@
+use Rattle.gestures.specs.Gestures.{acted_in_setup}
+use Rattle.gestures.proofs.in_setup.Goals as goal
+
+pub returns-in-Nothing : goal.returns-in-Nothing
+unfolding acted_in_setup
+returns-in-Nothing c = simp (c.unwritten.ensures, c.in-Nothing.is)
+
+pub returns-in-Taps : goal.returns-in-Taps
+unfolding acted_in_setup
+returns-in-Taps c = simp (c.taps_in_setup.ensures, c.in-Taps.is)
+
+pub returns-in-Hold : goal.returns-in-Hold
+unfolding acted_in_setup
+returns-in-Hold c = simp (c.unwritten-in-Hold.ensures, c.in-Hold.is)
+
+pub returns-in-Release : goal.returns-in-Release
+unfolding acted_in_setup
+returns-in-Release c = simp (c.unwritten-in-Release.ensures, c.in-Release.is)

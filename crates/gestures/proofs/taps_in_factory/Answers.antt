@@ -1,0 +1,15 @@
+use Rattle.words.proofs.Laws.{tests}
+use Rattle.gestures.specs.Gestures.{taps_in_factory}
+use Rattle.gestures.proofs.taps_in_factory.Goals as goal
+
+pub returns-then-taps-eq1 : goal.returns-then-taps-eq1
+unfolding taps_in_factory
+returns-then-taps-eq1 c = search (tests, c.unwritten.ensures, c.doing.ensures, c.single.ensures)
+
+pub returns-then-taps-eq2 : goal.returns-then-taps-eq2
+unfolding taps_in_factory
+returns-then-taps-eq2 c = search (tests, c.unwritten-then-taps-eq2.ensures, c.entering.ensures)
+
+pub returns : goal.returns
+unfolding taps_in_factory
+returns c = search (tests, c.unwritten-2.ensures)
