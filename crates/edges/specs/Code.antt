@@ -1,5 +1,5 @@
 -- What the inner functions of the code promise: no promise under the roof needs a definition of this file.
-use Rattle.core.specs.Prelude.{ℕ, List}
+use Rattle.std.specs.Prelude.{ℕ, List}
 use Rattle.vault.specs.declared.Mode.{Mode}
 use Rattle.vault.specs.declared.Mode.TheVariants.{Normal, Setup, Factory}
 use Rattle.dimmer.specs.declared.Dimmer.{Dimmer}

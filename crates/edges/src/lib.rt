@@ -1,6 +1,6 @@
 // Press and release edges of the contacts.
 #![tactic(auto)]
-ghost use Rattle.core.specs.Prelude.{◌≡◌, []};
+ghost use Rattle.std.specs.Prelude.{◌≡◌, []};
 ghost use Rattle.vault.specs.Job.{nothing};
 ghost use Rattle.paddle.specs.declared.Gesture.TheVariants.{Release};
 ghost use Rattle.state.specs.State.{core_of};

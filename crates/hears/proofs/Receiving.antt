@@ -1,9 +1,7 @@
 -- A received packet, over what its callees promise.
-use Rattle.core.specs.Prelude.{◌≡◌, ℕ, ◌≤◌, Bool, true, false, cond, List, [], ◌∷◌, length, drop}
+use Rattle.std.specs.Prelude.{◌≡◌, ℕ, ◌≤◌, Bool, true, false, cond, List, [], ◌∷◌, length, drop}
 use mathlib.Core.Path.{refl, sym, ap, subst, ◌∙◌}
 use native.Mathlib.Omega.{arith}
-use types.Run.{OneOf, miss}
-use denote.Enum.Declared.{tag_of}
 use Rattle.units.specs.Units.{percent_of}
 use Rattle.lamp.specs.Lamp.{signal_set}
 use Rattle.lamp.specs.declared.Colour.{Colour}
@@ -18,7 +16,6 @@ use Rattle.packet.specs.Reading.{message_from, message_of, number_of_frame, read
 use Rattle.packet.specs.declared.Frame.{Frame}
 use Rattle.packet.specs.declared.Frame.TheVariants as frame
 use Rattle.packet.specs.declared.Header.{Header}
-use Rattle.packet.specs.contracts.Frame
 use Rattle.model.specs.Model.{place, room}
 use Rattle.judge.specs.Judge.{judged}
 use Rattle.judge.specs.declared.Order.{Order}
@@ -122,9 +119,9 @@ says_stopped (order.Read first count) source values p w n h = absurd (apart_verd
 says_stopped (order.Work o) source values p w n h = absurd (apart_verdicts n h)
 
 -- What `let Frame::Read(..) = frame else` leaves does not read.
-unread : (f : Frame) (message : List ℕ) (p : Plain) → OneOf (1 ∷ 2 ∷ 3 ∷ 4 ∷ 5 ∷ []) (tag_of Frame.the_type f) → job_of_frame f message p ≡ done (garbled (number_of_frame f) p) nothing
+unread : (f : Frame) (message : List ℕ) (p : Plain) → ((h : Header) → f ≡ frame.Read h → ⊥) → job_of_frame f message p ≡ done (garbled (number_of_frame f) p) nothing
 unfolding job_of_frame
-unread (frame.Read h) message p k = absurd (miss (1 ∷ 2 ∷ 3 ∷ 4 ∷ 5 ∷ []) 0 tt k)
+unread (frame.Read h) message p k = absurd (k h refl)
 unread frame.Short message p k = refl
 unread frame.Long message p k = refl
 unread frame.Length message p k = refl
@@ -157,7 +154,7 @@ module _ (bytes c n l all out : List ℕ) (enough : room ≤ length out) (f : Fr
 
   pub garbled-responds :
       (number : ℕ) (c' n' : List ℕ) (none : Sent) (r : Answer) → Sized c n
-      → OneOf (1 ∷ 2 ∷ 3 ∷ 4 ∷ 5 ∷ []) (tag_of Frame.the_type f) → number ≡ number_of_frame f
+      → ((h : Header) → f ≡ frame.Read h → ⊥) → number ≡ number_of_frame f
       → LampKept (signal_set Black (lamp_of c n)) c n c' n'
       → none ≡ tally [] → r ≡ answer_with number none all (core_of c' n')
       → Responds (receive bytes) c n l all out r c' n' l all out

@@ -1,6 +1,6 @@
 // A received packet: read, judged, and what it asks for done and answered. The paddles have no part in it.
 #![tactic(auto)]
-ghost use Rattle.core.specs.Prelude.{◌≡◌, ℕ, List, drop};
+ghost use Rattle.std.specs.Prelude.{◌≡◌, ℕ, List, drop};
 ghost use Rattle.switch.specs.Switch.{receive};
 ghost use Rattle.switch.specs.Respond.{Responds};
 

@@ -1,5 +1,5 @@
 -- What the code and the proofs are cut by: no promise under the roof needs a definition of this file.
-use Rattle.core.specs.Prelude.{◌≡◌, ℕ, Bool, ◌||◌, List, [], ◌∷◌, ◌==◌}
+use Rattle.std.specs.Prelude.{◌≡◌, ℕ, Bool, ◌||◌, List, [], ◌∷◌, ◌==◌}
 use Rattle.timers.specs.Timers.{less}
 use Rattle.lamp.specs.Lamp.{next_lamp}
 use Rattle.vault.specs.Job.{changed}

@@ -1,7 +1,7 @@
 // What a tick moves in place: the timers and the motion of the core, the save, and the mode where one run of taps is all that a tick
 // completes.
 #![tactic(auto)]
-ghost use Rattle.core.specs.Prelude.{◌≡◌};
+ghost use Rattle.std.specs.Prelude.{◌≡◌};
 ghost use Rattle.state.specs.State.{core_of, password_of};
 ghost use Rattle.state.specs.Code.{CoreKept};
 ghost use Rattle.moves.specs.Code.{passed_core, Moves, Saves};

@@ -1,5 +1,5 @@
 // A tick whose one gesture is a run of taps that moves the mode. It sends nothing.
-ghost use Rattle.core.specs.Prelude.{◌≡◌, []};
+ghost use Rattle.std.specs.Prelude.{◌≡◌, []};
 ghost use Rattle.writes.specs.Writes.{applied};
 ghost use Rattle.paddle.specs.declared.Gesture.TheVariants.{Taps};
 ghost use Rattle.vault.specs.declared.Mode.TheVariants.{Normal, Setup, Factory};

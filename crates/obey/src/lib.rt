@@ -1,6 +1,6 @@
 // What a granted order does in the lent state, each kind of order in its own parts. The lamp's signal comes after it.
 #![tactic(auto)]
-ghost use Rattle.core.specs.Prelude.{◌≡◌};
+ghost use Rattle.std.specs.Prelude.{◌≡◌};
 ghost use Rattle.lamp.specs.Lamp.{signal_set};
 ghost use Rattle.registers.specs.declared.Seen.TheVariants.{Hidden};
 ghost use Rattle.acts.specs.Core.{entering};

@@ -1,5 +1,5 @@
 -- The quick ways: an event that completes no gesture, and a tick that saves nothing besides, run their timers and do nothing else.
-use Rattle.core.specs.Prelude.{◌≡◌, ℕ, zero, suc, ◌+◌, ◌<◌, ◌≤◌, true, List, [], map, replicate}
+use Rattle.std.specs.Prelude.{◌≡◌, ℕ, zero, suc, ◌+◌, ◌<◌, ◌≤◌, true, List, [], map, replicate}
 use mathlib.Core.Path.{refl, ap, ◌∙◌}
 use borrow.Author.Tests.{ne_eqb}
 use Rattle.timers.specs.Timers.{metronome}

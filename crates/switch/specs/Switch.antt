@@ -1,5 +1,5 @@
 -- What a switch holds, what happens to it, and what it answers (01, Events and time).
-use Rattle.core.specs.Prelude.{ℕ, List}
+use Rattle.std.specs.Prelude.{ℕ, List}
 use Rattle.lamp.specs.Lamp.{colour, output}
 use Rattle.paddle.specs.declared.Paddle.{Paddle}
 use Rattle.places.specs.Places.{digit_in, light_in}

@@ -3,7 +3,7 @@
 // registers and the state; an event reads the parts it needs and keeps those it changes. What an event cannot change is lent to be
 // read alone.
 #![tactic(auto)]
-ghost use Rattle.core.specs.Prelude.{◌≡◌};
+ghost use Rattle.std.specs.Prelude.{◌≡◌};
 ghost use Rattle.state.specs.State.{core_of};
 ghost use Rattle.switch.specs.Switch.{answer_with};
 

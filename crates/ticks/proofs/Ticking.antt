@@ -1,5 +1,5 @@
 -- A tick over what its callees promise.
-use Rattle.core.specs.Prelude.{◌≡◌, ℕ, ◌≤◌, Bool, true, List, [], map, length}
+use Rattle.std.specs.Prelude.{◌≡◌, ℕ, ◌≤◌, Bool, true, List, [], map, length}
 use mathlib.Core.Path.{refl, sym, ap, subst, ◌∙◌}
 use Rattle.words.proofs.Laws.{both}
 use Rattle.timers.specs.Timers.{beats}

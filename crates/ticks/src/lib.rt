@@ -1,6 +1,6 @@
 // One tick, 1/240 second.
 #![tactic(auto)]
-ghost use Rattle.core.specs.Prelude.{◌≡◌, length};
+ghost use Rattle.std.specs.Prelude.{◌≡◌, length};
 ghost use Rattle.outbox.specs.Code.{packets_in};
 ghost use Rattle.switch.specs.Switch.{tick};
 ghost use Rattle.switch.specs.Respond.{Responds};

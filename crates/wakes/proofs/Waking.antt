@@ -1,10 +1,8 @@
 -- The start and the restart, over what their callees promise.
-use Rattle.core.specs.Prelude.{◌≡◌, ℕ, ◌≤◌, Bool, true, false, eqb, List, [], ◌∷◌, length, replicate}
+use Rattle.std.specs.Prelude.{◌≡◌, ℕ, ◌≤◌, Bool, true, false, eqb, List, [], ◌∷◌, length, replicate}
 use mathlib.Core.Path.{refl, ap, subst, ◌∙◌}
 use native.Mathlib.Omega.{arith}
 use borrow.Author.Tests.{eqb-true, eqb-false}
-use types.Run.{OneOf, miss}
-use denote.Enum.Declared.{tag_of}
 use Rattle.vault.specs.Job.{settled}
 use Rattle.vault.specs.declared.Password.{Password}
 use Rattle.model.specs.Model.{room}
@@ -20,7 +18,6 @@ use Rattle.registers.specs.declared.Taken.TheVariants.{Apart, Refused}
 use Rattle.places.specs.declared.Counter.TheVariants.{Restarts}
 use Rattle.writes.specs.declared.Write.TheVariants.{Count}
 use Rattle.registers.proofs.Laws.{image_taken, image_refused}
-use Rattle.registers.specs.contracts.Taken.{the_type}
 use Rattle.registers.specs.Code.{Took}
 use Rattle.state.specs.State.{counter_count, number_count, password_of}
 use Rattle.panel.specs.Panel.{byte_count, fresh_paddles, kept_paddles}
@@ -106,6 +103,6 @@ starts_none image c n l all all₁ taken number r took e m f = by_size (eqb (len
         record { answered = simp (h, f, m, e); counted = simp h; numbered = simp h; moved = simp h; registers = simp (h, bare) }
 
 -- What `let Taken::Apart(..) = taken else` leaves is a refusal.
-pub not_taken : (t : Taken) → OneOf (1 ∷ []) (tag_of the_type t) → t ≡ Refused
-not_taken (Apart w) k = absurd (miss (1 ∷ []) 0 tt k)
+pub not_taken : (t : Taken) → ((w : Password) → t ≡ Apart w → ⊥) → t ≡ Refused
+not_taken (Apart w) k = absurd (k w refl)
 not_taken Refused k = refl

@@ -1,6 +1,6 @@
 // The start from a lent image, the restart, and the image that the owner saves.
 #![tactic(auto)]
-ghost use Rattle.core.specs.Prelude.{◌≡◌};
+ghost use Rattle.std.specs.Prelude.{◌≡◌};
 ghost use Rattle.registers.specs.Registers.{image_of};
 ghost use Rattle.state.specs.State.{password_of};
 ghost use Rattle.switch.specs.Switch.{restart};
