@@ -5,8 +5,6 @@ use mathlib.Core.Bool.{Bool, true, false, ◌&&◌, and-false, false≢true}
 use mathlib.Core.List.{List, [], ◌∷◌}
 use mathlib.Core.Path.{◌≡◌, refl, ap, ◌∙◌}
 use borrow.Author.Tests.{eq-eqb, eqb-true}
-use types.Run.{OneOf, miss}
-use denote.Enum.Declared.{tag_of}
 use lib.Dec.{eqb}
 use lib.ListN.{length, get_or, drop}
 use lib.Seq.{drop-cons}
@@ -24,7 +22,6 @@ use Rattle.page.specs.Page.{Page, puts}
 use Rattle.ledger.specs.Writing.{started, answered}
 use Rattle.line.specs.declared.Line.{Line}
 use Rattle.line.specs.declared.Line.TheVariants.{Pass, Unread, Image, Room, Press, Release, Ticks, Packet, Restart, Dump}
-use Rattle.line.specs.contracts.Line.{the_type}
 use Rattle.stage.specs.declared.Desk.{Desk}
 use Rattle.stage.specs.Stage.{scene, scene_of, deed_of, told, Plays, Scene, letter_of}
 use Rattle.desk.specs.Playing.{cleared, begun, ticks_of, same, played, event_of}
@@ -87,44 +84,53 @@ begins image desk c n l all c' n' l' all' answer page page' start wrote buffer =
     }
 
 -- For a line that is no event, and for a restart, the code has a restart.
-pub no_event : (line : Line) → OneOf (0 ∷ 1 ∷ 2 ∷ 3 ∷ 6 ∷ 8 ∷ 9 ∷ []) (tag_of the_type line) → event_of line ≡ happens.Restart
+pub no_event : (line : Line) → ((n : ℕ) → line ≡ Press n → ⊥) → ((n : ℕ) → line ≡ Release n → ⊥) → ((n : ℕ) → line ≡ Packet n → ⊥) → event_of line ≡ happens.Restart
 unfolding event_of
-no_event Pass k = refl
-no_event Unread k = refl
-no_event (Image n) k = refl
-no_event (Room n) k = refl
-no_event (Press n) k = absurd (miss (0 ∷ 1 ∷ 2 ∷ 3 ∷ 6 ∷ 8 ∷ 9 ∷ []) 4 tt k)
-no_event (Release n) k = absurd (miss (0 ∷ 1 ∷ 2 ∷ 3 ∷ 6 ∷ 8 ∷ 9 ∷ []) 5 tt k)
-no_event (Ticks n) k = refl
-no_event (Packet n) k = absurd (miss (0 ∷ 1 ∷ 2 ∷ 3 ∷ 6 ∷ 8 ∷ 9 ∷ []) 7 tt k)
-no_event Restart k = refl
-no_event Dump k = refl
+no_event Pass press release packet = refl
+no_event Unread press release packet = refl
+no_event (Image n) press release packet = refl
+no_event (Room n) press release packet = refl
+no_event (Press n) press release packet = absurd (press n refl)
+no_event (Release n) press release packet = absurd (release n refl)
+no_event (Ticks n) press release packet = refl
+no_event (Packet n) press release packet = absurd (packet n refl)
+no_event Restart press release packet = refl
+no_event Dump press release packet = refl
+
+-- A line for which `play` has no arm of its own.
+pub record IsOther (line : Line) : Type 0 where
+  pub pass : line ≡ Pass → ⊥
+  pub unread : line ≡ Unread → ⊥
+  pub image : (n : ℕ) → line ≡ Image n → ⊥
+  pub room : (n : ℕ) → line ≡ Room n → ⊥
+  pub ticks : (n : ℕ) → line ≡ Ticks n → ⊥
+  pub dump : line ≡ Dump → ⊥
 
 -- A line that is an event does what its event does.
-event_line : (number : ℕ) (line : Line) (bytes : List ℕ) (s : Scene) → OneOf (4 ∷ 5 ∷ 7 ∷ 8 ∷ []) (tag_of the_type line)
+event_line : (number : ℕ) (line : Line) (bytes : List ℕ) (s : Scene) → IsOther line
     → played number line bytes s ≡ told (letter_of (event_of line)) (deed_of (event_of line) bytes) s
 unfolding played event_of
-event_line number Pass bytes s k = absurd (miss (4 ∷ 5 ∷ 7 ∷ 8 ∷ []) 0 tt k)
-event_line number Unread bytes s k = absurd (miss (4 ∷ 5 ∷ 7 ∷ 8 ∷ []) 1 tt k)
-event_line number (Image n) bytes s k = absurd (miss (4 ∷ 5 ∷ 7 ∷ 8 ∷ []) 2 tt k)
-event_line number (Room n) bytes s k = absurd (miss (4 ∷ 5 ∷ 7 ∷ 8 ∷ []) 3 tt k)
+event_line number Pass bytes s k = absurd (k.pass refl)
+event_line number Unread bytes s k = absurd (k.unread refl)
+event_line number (Image n) bytes s k = absurd (k.image n refl)
+event_line number (Room n) bytes s k = absurd (k.room n refl)
 event_line number (Press n) bytes s k = refl
 event_line number (Release n) bytes s k = refl
-event_line number (Ticks n) bytes s k = absurd (miss (4 ∷ 5 ∷ 7 ∷ 8 ∷ []) 6 tt k)
+event_line number (Ticks n) bytes s k = absurd (k.ticks n refl)
 event_line number (Packet n) bytes s k = refl
 event_line number Restart bytes s k = refl
-event_line number Dump bytes s k = absurd (miss (4 ∷ 5 ∷ 7 ∷ 8 ∷ []) 9 tt k)
+event_line number Dump bytes s k = absurd (k.dump refl)
 
 -- So the promise of the event is that of the line.
 pub told_line : (number : ℕ) (line : Line) (bytes : List ℕ) (s : Scene) (e : Event) (page page' : Page) (desk : Desk) (c n l all buffer : List ℕ)
-    → OneOf (4 ∷ 5 ∷ 7 ∷ 8 ∷ []) (tag_of the_type line)
+    → IsOther line
     → e ≡ event_of line
     → Plays (told (letter_of e) (deed_of e bytes) s) page desk c n l all buffer page'
     → Plays (played number line bytes s) page desk c n l all buffer page'
 told_line number line bytes s e page page' desk c n l all buffer is e-is plays = rw (event_line number line bytes s is, ← e-is) plays
 
 -- Any line but `t` asks for no ticks.
-pub no_ticks : (line : Line) (there : Bool) → OneOf (0 ∷ 1 ∷ 2 ∷ 3 ∷ 4 ∷ 5 ∷ 7 ∷ 8 ∷ 9 ∷ []) (tag_of the_type line) → ticks_of line there ≡ 0
+pub no_ticks : (line : Line) (there : Bool) → ((n : ℕ) → line ≡ Ticks n → ⊥) → ticks_of line there ≡ 0
 unfolding ticks_of
 no_ticks Pass there k = refl
 no_ticks Unread there k = refl
@@ -132,7 +138,7 @@ no_ticks (Image n) there k = refl
 no_ticks (Room n) there k = refl
 no_ticks (Press n) there k = refl
 no_ticks (Release n) there k = refl
-no_ticks (Ticks n) there k = absurd (miss (0 ∷ 1 ∷ 2 ∷ 3 ∷ 4 ∷ 5 ∷ 7 ∷ 8 ∷ 9 ∷ []) 6 tt k)
+no_ticks (Ticks n) there k = absurd (k n refl)
 no_ticks (Packet n) there k = refl
 no_ticks Restart there k = refl
 no_ticks Dump there k = refl
