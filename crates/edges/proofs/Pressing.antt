@@ -48,7 +48,7 @@ use Rattle.switch.specs.Code.{signalled_on}
 use Rattle.edges.specs.Code.{LetsGo, let_go}
 use Rattle.answers.specs.declared.Answer.{Answer}
 use Rattle.switch.proofs.Laws.{is_known, leaves_all, leaves_core, leaves_shown, says, says_finished, says_no_press, says_no_release, signalled_on_some, unchanged}
-use Rattle.switch.proofs.Quick.{quick-press, quick-release}
+use Rattle.switch.proofs.Quick.{quick_press, quick_release}
 
 -- Edges of a contact that there is not, and those that complete no gesture.
 module _ (contact : ℕ) (c n l all out : List ℕ) (none : Sent) (r : Answer) (enough : room ≤ length out) (none_sent : none ≡ tally []) where
@@ -58,19 +58,19 @@ module _ (contact : ℕ) (c n l all out : List ℕ) (none : Sent) (r : Answer) (
   pub release_unknown : contact_count ≤ contact → r ≡ answer_with 3 none all (core_of c n) → Responds (release contact) c n l all out r c n l all out
   release_unknown k shows = leaves_all _ 3 c n l all out none r (says_no_release _ _ _ contact enough k) none_sent shows
 
-  pub press-known :
+  pub press_known :
       (l' : List ℕ) → contact < contact_count → l' ≡ kept_paddles (pressed_at contact (paddles_of l)) l → r ≡ answer_with 0 none all (core_of c n)
       → Responds (press contact) c n l all out r c n l' all out
-  press-known l' k moved shows =
-      leaves_core _ 0 (pressed_at contact (paddles_of l)) c n l all out none r l' (quick-press all _ _ _ _ enough contact k) none_sent shows moved
+  press_known l' k moved shows =
+      leaves_core _ 0 (pressed_at contact (paddles_of l)) c n l all out none r l' (quick_press all _ _ _ _ enough contact k) none_sent shows moved
 
-  pub release-still :
+  pub release_still :
       (l' : List ℕ) (g : Gesture) (still : Bool) → contact < contact_count → Lifts contact l g l' → still ≡ completes_nothing g → still ≡ true
       → r ≡ answer_with 0 none all (core_of c n)
       → Responds (release contact) c n l all out r c n l' all out
-  release-still l' g still k lifts tells is-still shows =
+  release_still l' g still k lifts tells is-still shows =
       leaves_core _ 0 (released_at contact (paddles_of l)) c n l all out none r l'
-      (quick-release all _ _ _ _ enough contact k (ap completes_nothing (sym lifts.completed) ∙ sym tells ∙ is-still)) none_sent shows lifts.paddles
+      (quick_release all _ _ _ _ enough contact k (ap completes_nothing (sym lifts.completed) ∙ sym tells ∙ is-still)) none_sent shows lifts.paddles
 
 -- A release edge completes the end of a Hold, or nothing.
 up_or_none : (a b : Bool) → completes_nothing (cond a (cond b Release Nothing) Nothing) ≡ false → cond a (cond b Release Nothing) Nothing ≡ Release

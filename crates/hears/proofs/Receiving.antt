@@ -152,14 +152,14 @@ module _ (bytes c n l all out : List ℕ) (enough : room ≤ length out) (f : Fr
       says (switch_of c n l all).plain (password_of n) (length out) (receive bytes) enough
       ∙ ap (λ (x : Frame). settled (password_of n) (job_of_frame x (message_from x bytes) (switch_of c n l all).plain)) (sym read)
 
-  pub garbled-responds :
+  pub garbled_responds :
       (number : ℕ) (c' n' : List ℕ) (none : Sent) (r : Answer) → Sized c n
       → ((h : Header) → f ≡ frame.Read h → ⊥) → number ≡ number_of_frame f
       → LampKept (signal_set Black (lamp_of c n)) c n c' n'
       → none ≡ tally [] → r ≡ answer_with number none all (core_of c' n')
       → Responds (receive bytes) c n l all out r c' n' l all out
   unfolding settled garbled placed
-  garbled-responds number c' n' none r sized tag numbered kept none_sent shows =
+  garbled_responds number c' n' none r sized tag numbered kept none_sent shows =
       leaves_shown _ number [] (signalled Black (core_of c n)) (password_of n) (paddles_of l) c n l out none r c' n' l all out sized
       (asked ∙ ap (settled (password_of n)) (unread f (message_from f bytes) (switch_of c n l all).plain tag) ∙ rw (unchanged (password_of n), numbered))
       none_sent shows (signal_alone Black c n c' n' kept) (sym (paddles_same l)) refl
@@ -174,23 +174,23 @@ module _ (bytes c n l all out : List ℕ) (enough : room ≤ length out) (f : Fr
         ∙ ap (λ (x : Frame). settled (password_of n) (job_of_frame x message (switch_of c n l all).plain)) reads
         ∙ ap (λ (x : Order). settled (password_of n) (job_of_order x h.source (drop 2 message) (switch_of c n l all).plain)) (ap (λ (x : Mode). judged all x h message) (sym moded) ∙ sym judges)
 
-    pub stopped-responds :
+    pub stopped_responds :
         (v : Verdict) (w : Password) (number : ℕ) (none : Sent) (r : Answer) → w ≡ password_of n → v ≡ verdict_of o w → v ≡ Stop number
         → none ≡ tally [] → r ≡ answer_with number none all (core_of c n)
         → Responds (receive bytes) c n l all out r c n l all out
-    stopped-responds v w number none r own judged-so stops none_sent shows =
+    stopped_responds v w number none r own judged-so stops none_sent shows =
         leaves_all _ number c n l all out none r
         (ordered ∙ says_stopped o h.source (drop 2 message) (switch_of c n l all).plain (password_of n) number (ap (verdict_of o) (sym own) ∙ sym judged-so ∙ stops))
         none_sent shows
 
-    pub granted-responds :
+    pub granted_responds :
         (v : Verdict) (w : Password) (values : List ℕ) (size : ℕ) (hue : Colour) (c₁ n₁ all₁ out₁ c₂ n₂ : List ℕ) (sent : Sent) (r : Answer)
         → w ≡ password_of n → v ≡ verdict_of o w → v ≡ Go → values ≡ drop 2 message → Sized c n
         → Obeys (effect_of all o (core_of c n)) values h.source (reply_of o) (seen_of o (mode_in n) (password_of n)) c n all out size c₁ n₁ all₁ out₁
         → hue ≡ hue_by size → LampKept (signal_set hue (lamp_of c₁ n₁)) c₁ n₁ c₂ n₂ → sent ≡ lone size → r ≡ answer_with 0 sent all₁ (core_of c₂ n₂)
         → Responds (receive bytes) c n l all out r c₂ n₂ l all₁ out₁
     unfolding outcome_of plain_after core_of signalled
-    granted-responds v w values size hue c₁ n₁ all₁ out₁ c₂ n₂ sent r own judged-so goes behind sized obeys hued lamp counted shows =
+    granted_responds v w values size hue c₁ n₁ all₁ out₁ c₂ n₂ sent r own judged-so goes behind sized obeys hued lamp counted shows =
         let w₀ = password_of n in
         let k₀ = core_of c n in
         let e = effect_of all o k₀ in

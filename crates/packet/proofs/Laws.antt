@@ -2,7 +2,7 @@
 use Prim.Native.Nat.{ℕ, ◌+◌, ◌-◌, ◌%◌, ◌≤◌, ◌<◌}
 use native.Mathlib.Omega.{arith}
 use mathlib.Core.Bool.{not}
-use mathlib.Core.List.{List, [], ◌∷◌}
+use mathlib.Core.List.{List, []}
 use mathlib.Core.Path.{◌≡◌, refl, ap, subst}
 use borrow.Author.Tests.{le-ltb, ltb-true, ltb-false, eqb-true, eqb-false, not-true, not-false}
 use lib.Dec.{ltb, eqb}
@@ -15,7 +15,6 @@ use Rattle.packet.specs.declared.Frame.TheVariants.{Read, Short, Long, Length, S
 use Rattle.packet.specs.Layout.{header_in, whole_in, reserved_in, head_bytes, total, packed}
 use Rattle.packet.specs.Reading.{read_of, number_of_frame, message_from, message_of}
 use Rattle.packet.specs.Promises.{Sized, Counted, Summed, Reads, Sound, ReadExactly, ReadRow, done, too_short, too_long, wrong_length, wrong_sum, reserved_bit}
-use Rattle.packet.specs.contracts.Frame.{the_type}
 
 -- What the reader answers meets its row of the table.
 pub given : (p : List ℕ) → Reads (read_of p) p

@@ -1,5 +1,6 @@
 // The packet on the line: its header read and checked, and its message handed back.
 #![tactic(auto)]
+
 ghost use Rattle.std.specs.Prelude.{◌≡◌, ◌%◌};
 ghost use Rattle.packet.specs.Layout.{whole_in, reserved_in, header_in, total};
 ghost use Rattle.packet.specs.Reading.{read_of, number_of_frame, message_from};

@@ -56,7 +56,7 @@ use Rattle.turns.proofs.Laws.{turned_nothing}
 use Rattle.switch.specs.Switch.{Event, Plain, answer_of, answer_with, plain, press, release, tick}
 use Rattle.switch.specs.Events.{begun, finished, job_of_release, signalled_by, job_of_tick}
 use Rattle.switch.specs.Respond.{respond, wall_switch}
-use Rattle.switch.proofs.Quick.{quick-press, quick-release, turns_quiet}
+use Rattle.switch.proofs.Quick.{quick_press, quick_release, turns_quiet}
 use Rattle.switch.specs.Code.{told}
 use Rattle.promises.specs.Ticking.{AtRest, IsHold, IsNothing, IsTaps, Shows, Steady, dimmer_by, dimmer_in, mode_in, nth_tick, packets_by, press_of, run_of, ticks_of, with_room}
 use Rattle.promises.proofs.Jobs.{release_job, tick_job}
@@ -424,14 +424,14 @@ module _ (s : Switch Plain) (d : Dimmer) (contact : ℕ) (known : contact < cont
   press_passed : Passed s d (paddle_of contact) (pressed (kind_of contact) own) others t (with_room (press contact) ∷ [])
   press_passed =
       one_passed s d (paddle_of contact) (pressed (kind_of contact) own) others t (with_room (press contact)) _ _
-      (quick-press t.plain.registers t.plain.core t.plain.paddles t.password room (omega arith) contact known)
+      (quick_press t.plain.registers t.plain.core t.plain.paddles t.password room (omega arith) contact known)
       (record { paddles = ap (pressed_at contact) like.paddles ∙ pressed_side contact own others like.there; there = like.there; mode = like.mode; has = like.has; steady = like.steady; registers = like.registers })
 
   release_passed : gesture_up (kind_of contact) own ≡ Nothing → Passed s d (paddle_of contact) (released (kind_of contact) own) others t (with_room (release contact) ∷ [])
   unfolding completes_nothing
   release_passed still =
       one_passed s d (paddle_of contact) (released (kind_of contact) own) others t (with_room (release contact)) _ _
-      (quick-release t.plain.registers t.plain.core t.plain.paddles t.password room (omega arith) contact known
+      (quick_release t.plain.registers t.plain.core t.plain.paddles t.password room (omega arith) contact known
       (ap (λ (ps : List Paddle). completes_nothing (gesture_at contact ps)) like.paddles ∙ ap completes_nothing (gesture_side contact own others like.there ∙ still)))
       (record { paddles = ap (released_at contact) like.paddles ∙ released_side contact own others like.there; there = like.there; mode = like.mode; has = like.has; steady = like.steady; registers = like.registers })
 

@@ -40,19 +40,19 @@ unfolding saved to_save aged passed_core unwritten metronome
 unsaved c h = rw (ne_eqb c.save 0 h)
 
 module _ (all : List ℕ) (c : Core) (ps : List Paddle) (w : Password) (lent : ℕ) (enough : room ≤ lent) where
-  pub quick-press :
+  pub quick_press :
       (contact : ℕ) → contact < contact_count
       → respond (switch (plain all c ps) w) (event lent (press contact)) ≡ told 0 [] (plain all c (pressed_at contact ps)) w
   unfolding Product.response_of settled job_of_deed job_of_press finished signalled_by changed became
-  quick-press contact known =
+  quick_press contact known =
       let p = plain all c ps in
       rw (enough_room p lent (press contact) enough, is_known contact (job_of_press contact) p known)
 
-  pub quick-release :
+  pub quick_release :
       (contact : ℕ) → contact < contact_count → completes_nothing (gesture_at contact ps) ≡ true
       → respond (switch (plain all c ps) w) (event lent (release contact)) ≡ told 0 [] (plain all c (released_at contact ps)) w
   unfolding Product.response_of settled job_of_deed job_of_release finished signalled_by changed became
-  quick-release contact known still =
+  quick_release contact known still =
       let p = plain all c ps in
       rw (
         enough_room p lent (release contact) enough,
@@ -61,10 +61,10 @@ module _ (all : List ℕ) (c : Core) (ps : List Paddle) (w : Password) (lent : �
         turned_nothing (paddle_of contact) (begun p c),
       )
 
-  pub quick-tick :
+  pub quick_tick :
       (n : ℕ) → (c.save ≡ 0 → ⊥) → map gesture ps ≡ replicate n Nothing
       → respond (switch (plain all c ps) w) (event lent tick) ≡ told 0 [] (plain all (passed_core c) (map next_paddle ps)) w
   unfolding Product.response_of settled job_of_deed job_of_tick after unwritten applied change_of change_at followed over finished signalled_by changed became
-  quick-tick n unsaving still =
+  quick_tick n unsaving still =
       let p = plain all c ps in
       rw (enough_room p lent tick enough, turns_quiet ps n 0 (begun p (aged c)) still, unsaved c unsaving)

@@ -37,7 +37,7 @@ use Rattle.switch.specs.Respond.{Leaves, Responds}
 use Rattle.switch.specs.Code.{signalled_on}
 use Rattle.answers.specs.declared.Answer.{Answer}
 use Rattle.switch.proofs.Laws.{leaves, leaves_shown, says, says_finished}
-use Rattle.switch.proofs.Quick.{quick-tick}
+use Rattle.switch.proofs.Quick.{quick_tick}
 use Rattle.ticks.specs.Code.{Finishes, Ticks}
 
 -- A quick tick.
@@ -51,7 +51,7 @@ unfolding core_of placed
 tick_quick c n l all out save quiet l' c' n' none r enough saves some told still sized ran kept none_sent shows =
     let h : quiet_bytes l ≡ true = sym told ∙ still in
     leaves_shown _ 0 [] (passed_core (core_of c n)) (password_of n) (map next_paddle (paddles_of l)) c n l out none r c' n' l' all out sized
-    (quick-tick all (core_of c n) (paddles_of l) (password_of n) (length out) enough paddle_count (λ e. some (saves ∙ e)) (quiet_gestures l h))
+    (quick_tick all (core_of c n) (paddles_of l) (password_of n) (length out) enough paddle_count (λ e. some (saves ∙ e)) (quiet_gestures l h))
     none_sent shows kept (ran ∙ quiet_ran l h) refl
 
 -- The end of a tick with all its stages.

@@ -1,6 +1,7 @@
 // The two kinds of tick counter that a switch has. Both count down and know no date: a timer stands still at 0, and a
 // metronome beats at the tick that finds it at 0 and starts over.
 #![tactic(auto)]
+
 ghost use Rattle.std.specs.Prelude.{◌≡◌};
 ghost use Rattle.timers.specs.Timers.{less, metronome};
 

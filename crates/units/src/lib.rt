@@ -1,5 +1,6 @@
 // A level on its two scales, steps and percents. They are two types, and a conversion leads from each to the other.
 #![tactic(auto)]
+
 ghost use Rattle.std.specs.Prelude.{◌≡◌};
 ghost use Rattle.units.specs.Units.{step_of, percent_of};
 

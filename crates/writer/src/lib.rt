@@ -1,5 +1,6 @@
 // A packet written from its header and its message, by the layout that it is read by.
 #![tactic(auto)]
+
 ghost use Rattle.std.specs.Prelude.{◌≡◌, ◌+◌, ◌≤◌, true, ◌++◌, length, drop};
 ghost use Rattle.std.proofs.Math.Seq.{paste};
 ghost use Rattle.packet.specs.Layout.{first_byte, second_byte, head_bytes, balance, packed};

@@ -1,7 +1,7 @@
 use native.Mathlib.Omega.{arith}
 use Rattle.switch.specs.Switch.{press}
 use Rattle.switch.proofs.Laws.{short_responds}
-use Rattle.edges.proofs.Pressing.{press-known, press_unknown}
+use Rattle.edges.proofs.Pressing.{press_known, press_unknown}
 use Rattle.edges.proofs.press.Goals as goal
 
 pub returns-then-out-lt-ROOM : goal.returns-then-out-lt-ROOM
@@ -13,4 +13,4 @@ pub returns-then-contact-ge-CONTACTS : goal.returns-then-contact-ge-CONTACTS
 returns-then-contact-ge-CONTACTS c = press_unknown _ _ _ _ _ _ c.none-then-contact-ge-CONTACTS.result c.shown-then-contact-ge-CONTACTS.result (omega arith) c.none-then-contact-ge-CONTACTS.ensures (omega arith) c.shown-then-contact-ge-CONTACTS.ensures
 
 pub returns : goal.returns
-returns c = press-known _ _ _ _ _ _ c.none-2.result c.shown-2.result (omega arith) c.none-2.ensures _ (omega arith) c.press.ensures c.shown-2.ensures
+returns c = press_known _ _ _ _ _ _ c.none-2.result c.shown-2.result (omega arith) c.none-2.ensures _ (omega arith) c.press.ensures c.shown-2.ensures

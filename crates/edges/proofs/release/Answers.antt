@@ -2,7 +2,7 @@ use native.Mathlib.Omega.{arith}
 use Rattle.panel.proofs.Laws.{paddle_low}
 use Rattle.switch.specs.Switch.{release}
 use Rattle.switch.proofs.Laws.{short_responds}
-use Rattle.edges.proofs.Pressing.{release_responds, release-still, release_unknown}
+use Rattle.edges.proofs.Pressing.{release_responds, release_still, release_unknown}
 use Rattle.edges.proofs.release.Goals as goal
 
 pub returns-then-out-lt-ROOM : goal.returns-then-out-lt-ROOM
@@ -13,7 +13,7 @@ returns-then-contact-ge-CONTACTS c = release_unknown _ _ _ _ _ _ c.none-then-con
 
 pub returns-then-none : goal.returns-then-none
 returns-then-none c =
-    release-still _ _ _ _ _ _ c.none-then-none.result c.shown-then-none.result (omega arith) c.none-then-none.ensures _ _ _ (omega arith) c.release-gesture.ensures c.none-2.ensures c.if-none.true c.shown-then-none.ensures
+    release_still _ _ _ _ _ _ c.none-then-none.result c.shown-then-none.result (omega arith) c.none-then-none.ensures _ _ _ (omega arith) c.release-gesture.ensures c.none-2.ensures c.if-none.true c.shown-then-none.ensures
 
 pub overflow_cast-paddle_of : goal.overflow_cast-paddle_of
 overflow_cast-paddle_of c = omega (arith, paddle_low c.args.contact, c.paddle_of.ensures)

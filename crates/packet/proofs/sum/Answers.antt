@@ -1,6 +1,5 @@
 -- `sum` meets its contract. The invariant: what is summed and what is left come to the whole, modulo 256.
 use mathlib.Core.Path.{◌≡◌}
-use Prim.Native.Nat.{◌-◌}
 use native.Mathlib.Omega.{arith}
 use borrow.Author.Rules.{rules}
 use lib.ListN.{drop, drop_of_length-le}

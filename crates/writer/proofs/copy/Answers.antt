@@ -1,6 +1,6 @@
 -- `copy` meets its contract. The invariant: as many bytes as were counted stand behind the header, and the rest of the buffer is as it was.
 use mathlib.Core.Path.{◌≡◌}
-use Prim.Native.Nat.{◌+◌, ◌-◌}
+use Prim.Native.Nat.{◌+◌}
 use native.Mathlib.Numerals.{add-one}
 use native.Mathlib.Omega.{arith}
 use borrow.Author.Rules.{rules}
