@@ -1,4 +1,4 @@
-/* The proved switch, for C (C89 and later, with <stdint.h>) and C++. Link target/staticlib/libhost.a, which `rt staticlib host`
+/* The proved switch, for C (C89 and later, with <stdint.h>) and C++. Link target/staticlib/libhost.a, which `tests/build archive`
  * makes.
  *
  * The caller keeps a switch in a struct melszondru and hands it to every call. Nothing is kept elsewhere: there is no heap, no

@@ -11,7 +11,7 @@ fn main() {
     println!("cargo::rerun-if-changed={}", archive.display());
     if !archive.is_file() {
         println!(
-            "cargo::error={} is missing. Run `rt staticlib host` in {} to make it.",
+            "cargo::error={} is missing. Run `tests/build archive` in {} to make it.",
             archive.display(),
             repository.display()
         );

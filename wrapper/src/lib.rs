@@ -30,8 +30,8 @@
 //! # Ok::<(), Refusal>(())
 //! ```
 //!
-//! The archive `target/staticlib/libhost.a` has the proved code; `rt staticlib host` makes it (x86-64 Linux). The proofs are about
-//! the archive's source. This crate is not proved: it hands the arguments on, and its tests try it.
+//! The archive `target/staticlib/libhost.a` has the proved code; `tests/build archive` makes it (x86-64 Linux). The proofs are
+//! about the archive's source. This crate is not proved: it hands the arguments on, and its tests try it.
 
 #![no_std]
 #![deny(missing_docs)]

@@ -34,6 +34,6 @@ fn a_missing_archive_is_said_plainly() {
     let line = said.lines().find(|line| line.contains("libhost.a"));
     let line = line.unwrap_or_else(|| panic!("{said}"));
     assert!(line.starts_with("error: "), "{line}");
-    assert!(line.contains("is missing. Run `rt staticlib host`"));
+    assert!(line.contains("is missing. Run `tests/build archive`"));
     assert!(!said.contains("panicked") && !said.contains("linking with"));
 }
