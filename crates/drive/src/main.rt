@@ -1,13 +1,21 @@
 // Plays a script on a switch: the file that the first argument names, or standard input, line by line to standard output.
 #![tactic(auto)]
+
 use desk::same;
-use libc::{STDERR_FILENO, STDIN_FILENO, STDOUT_FILENO};
 use line::{Line, read};
 use model::{PADDLES, PLACE};
 use page::front;
 use panel::BYTES;
 use stage::{Desk, Turn};
 use state::{COUNTERS, NUMBERS};
+use std::env::{Env, FillError};
+use std::fs;
+use std::io::{Cursor, Error, ErrorKind, Read, Write};
+use std::process::ExitCode;
+use std::rt::Files;
+
+// The longest path that is taken.
+const PATH: usize = 4096;
 
 // What is kept of a line: one byte more than the longest that reads.
 const LINE: usize = 2049;
@@ -27,16 +35,25 @@ const FULL: usize = 63488;
 // The most that a row takes: of each packet its length and a comma, and two digits for every byte.
 const ROW: usize = 38 + PADDLES * (5 + 2 * PLACE);
 
-// What goes out: the place of the next byte on the page, and whether every page so far was taken. Once one was not, no more is written.
-#[derive(Drop)]
+// The room for what the system says of an error.
+const WHY: usize = 320;
+
+// The status where nobody reads the answers on, as a shell has it of a program that the signal SIGPIPE ends. Here that signal is
+// ignored from the start, and the write fails.
+const UNHEARD: u8 = 141;
+
+// What goes out: the place of the next byte on the page, and whether every page so far was taken. Once one was not, no more is
+// written; `heard` is whether there was somebody to take it.
+#[derive(Clone, Copy)]
 struct Out {
     at: usize,
     taken: bool,
+    heard: bool,
 }
 
 // How far a script has come: the desk, what goes out, the lines so far, how many of them did not read, and the bytes of the line
 // that is being collected.
-#[derive(Drop)]
+#[derive(Clone, Copy)]
 struct Script {
     desk: Desk,
     out: Out,
@@ -46,7 +63,7 @@ struct Script {
 }
 
 // Ticks under way: the desk, what goes out, and the last run with the length of its row.
-#[derive(Drop)]
+#[derive(Clone, Copy)]
 struct Ticking {
     desk: Desk,
     out: Out,
@@ -54,28 +71,35 @@ struct Ticking {
     size: usize,
 }
 
-fn main() {
-    if os::arg_count() < 2 {
-        run(STDIN_FILENO, b"standard input");
-        return;
+fn main(rt: HostRuntime) -> ExitCode {
+    let mut path = [0u8; PATH];
+    match rt.arg(1, &mut path) {
+        Ok(length) => from_file(&rt, &path[..length]),
+        Err(FillError::NotPresent) => run(&rt, &mut rt.stdin(), "standard input"),
+        Err(FillError::TooLong) => {
+            say(&rt, "path", "File name too long");
+            ExitCode::SUCCESS
+        }
     }
-    let mut path = io::buffer();
-    let length = os::arg(1, &mut path);
-    if os::errno() != 0 {
-        os::fail(b"path");
-        return;
+}
+
+// The script is in a file. Its path is UTF-8: std opens no other.
+fn from_file(rt: &(impl Files + Print + Eprint), path: &[u8]) -> ExitCode {
+    let Ok(name) = str::from_utf8(path) else {
+        say(rt, "path", "not UTF-8");
+        return ExitCode::SUCCESS;
+    };
+    match fs::open(rt, name) {
+        Ok(mut file) => run(rt, &mut file, name),
+        Err(why) => {
+            fail(rt, name, why);
+            ExitCode::SUCCESS
+        }
     }
-    let fd = os::open_read(&path[..length]);
-    if fd < 0 {
-        os::fail(&path[..length]);
-        return;
-    }
-    run(fd, &path[..length]);
-    libc::close(fd);
 }
 
 // The whole script, or as much of it as could be read and answered. The turns count down from a number that no script uses up.
-fn run(fd: i32, name: &[u8]) {
+fn run(rt: &(impl Print + Eprint), from: &mut impl Read, name: &str) -> ExitCode {
     let mut input = [0u8; BLOCK];
     let mut line = [0u8; LINE];
     let mut counters = [0u16; COUNTERS];
@@ -86,18 +110,23 @@ fn run(fd: i32, name: &[u8]) {
     let mut page = [0u8; BLOCK];
     let mut script = Script {
         desk: Desk::empty(),
-        out: Out { at: 0, taken: true },
+        out: Out {
+            at: 0,
+            taken: true,
+            heard: true,
+        },
         lines: 0,
         unread: 0,
         size: 0,
     };
     let mut turns = u64::MAX;
     while 0 < turns {
-        let got = block(fd, name, &mut input);
+        let got = block(rt, from, name, &mut input);
         if got == 0 {
             break;
         }
         script = part(
+            rt,
             &input,
             got,
             script,
@@ -116,6 +145,7 @@ fn run(fd: i32, name: &[u8]) {
     }
     if 0 < script.size {
         script = perform(
+            rt,
             script,
             &line,
             &mut counters,
@@ -126,21 +156,24 @@ fn run(fd: i32, name: &[u8]) {
             &mut page,
         );
     }
-    print(&page, script.out);
-    report(script.unread);
+    let out = print(rt, &page, script.out);
+    end(rt, out, script.unread)
 }
 
 // The next block of the script, and how many bytes it has: none at its end.
-fn block(fd: i32, name: &[u8], input: &mut [u8; BLOCK]) -> usize {
-    let got = libc::read(fd, input);
-    if got < 0 {
-        os::fail(name);
+fn block(rt: &impl Eprint, from: &mut impl Read, name: &str, input: &mut [u8; BLOCK]) -> usize {
+    match from.read(input) {
+        Ok(got) => got,
+        Err(why) => {
+            fail(rt, name, why);
+            0
+        }
     }
-    io::count(got, input)
 }
 
 // A part of the script, byte by byte.
 fn part(
+    rt: &(impl Print + Eprint),
     input: &[u8; BLOCK],
     count: usize,
     script: Script,
@@ -157,21 +190,28 @@ fn part(
     let mut i = 0;
     while i < text.len() {
         if text[i] == b'\n' {
-            next = perform(next, line, counters, numbers, paddles, all, buffer, page);
+            next = perform(
+                rt, next, line, counters, numbers, paddles, all, buffer, page,
+            );
         } else {
             next.size = collect(line, next.size, text[i]);
         }
         i += 1;
     }
-    print_short(next, count, page)
+    print_short(rt, next, count, page)
 }
 
 // After a block that is not full the writer of the script may be waiting, as at a terminal: what is answered so far goes out.
-fn print_short(script: Script, count: usize, page: &[u8; BLOCK]) -> Script {
+fn print_short(
+    rt: &(impl Print + Eprint),
+    script: Script,
+    count: usize,
+    page: &[u8; BLOCK],
+) -> Script {
     if count == BLOCK {
         return script;
     }
-    let out = print(page, script.out);
+    let out = print(rt, page, script.out);
     let desk = script.desk;
     Script {
         desk,
@@ -193,6 +233,7 @@ fn collect(line: &mut [u8; LINE], size: usize, byte: u8) -> usize {
 
 // A whole line.
 fn perform(
+    rt: &(impl Print + Eprint),
     script: Script,
     line: &[u8; LINE],
     counters: &mut [u16; COUNTERS],
@@ -223,6 +264,7 @@ fn perform(
     let out = Out {
         at: turn.at,
         taken: before.taken,
+        heard: before.heard,
     };
     let start = Ticking {
         desk,
@@ -231,6 +273,7 @@ fn perform(
         size: 0,
     };
     let end = ticks(
+        rt,
         desk::ticks(said, desk),
         start,
         counters,
@@ -241,7 +284,7 @@ fn perform(
         page,
     );
     let after = end.desk;
-    let last = print_full(page, end.out);
+    let last = print_full(rt, page, end.out);
     Script {
         desk: after,
         out: last,
@@ -261,6 +304,7 @@ fn missed(said: Line, unread: u64) -> u64 {
 
 // So many ticks, and the lines of their runs.
 fn ticks(
+    rt: &(impl Print + Eprint),
     count: u32,
     start: Ticking,
     counters: &mut [u16; COUNTERS],
@@ -276,7 +320,7 @@ fn ticks(
     let mut left = count;
     while 0 < left {
         ticking = tick(
-            ticking, counters, numbers, paddles, all, buffer, &mut last, &mut row, page,
+            rt, ticking, counters, numbers, paddles, all, buffer, &mut last, &mut row, page,
         );
         if !ticking.out.taken {
             break;
@@ -295,6 +339,7 @@ fn ticks(
 
 // One tick, and the run that it belongs to.
 fn tick(
+    rt: &(impl Print + Eprint),
     ticking: Ticking,
     counters: &mut [u16; COUNTERS],
     numbers: &mut [u8; NUMBERS],
@@ -306,11 +351,12 @@ fn tick(
     page: &mut [u8; BLOCK],
 ) -> Ticking {
     let turn = stage::tick(ticking.desk, counters, numbers, paddles, all, buffer, row);
-    join(ticking, turn, last, row, page)
+    join(rt, ticking, turn, last, row, page)
 }
 
 // The tick joins the run where its row is the same. Else the run is written, and the tick begins another.
 fn join(
+    rt: &(impl Print + Eprint),
     ticking: Ticking,
     turn: Turn,
     last: &mut [u8; ROW],
@@ -328,7 +374,7 @@ fn join(
         };
     }
     let closed = close(ticking, last, page);
-    let out = print_full(page, closed);
+    let out = print_full(rt, page, closed);
     *last = *row;
     Ticking {
         desk,
@@ -347,6 +393,7 @@ fn close(ticking: Ticking, last: &[u8; ROW], page: &mut [u8; BLOCK]) -> Out {
     Out {
         at: page::run(page, out.at, ticking.run, front(last, ticking.size)),
         taken: out.taken,
+        heard: out.heard,
     }
 }
 
@@ -359,34 +406,71 @@ fn more(n: u64) -> u64 {
 }
 
 // Writes a page out that is nearly full.
-fn print_full(page: &[u8; BLOCK], out: Out) -> Out {
+fn print_full(rt: &(impl Print + Eprint), page: &[u8; BLOCK], out: Out) -> Out {
     if out.at <= FULL {
         return out;
     }
-    print(page, out)
+    print(rt, page, out)
 }
 
-// Writes a page out, and says so where it is not taken.
-fn print(page: &[u8; BLOCK], out: Out) -> Out {
+// Writes a page out, and says so where it is not taken. Where nobody reads on, nothing is said.
+fn print(rt: &(impl Print + Eprint), page: &[u8; BLOCK], out: Out) -> Out {
     if !out.taken {
         return Out {
             at: 0,
             taken: false,
+            heard: out.heard,
         };
     }
-    let taken = io::write_all(STDOUT_FILENO, front(page, out.at));
-    if !taken {
-        os::fail(b"standard output");
+    let Err(why) = rt.write_all(front(page, out.at)) else {
+        return Out {
+            at: 0,
+            taken: true,
+            heard: true,
+        };
+    };
+    let heard = why.kind() != ErrorKind::BrokenPipe;
+    if heard {
+        fail(rt, "standard output", why);
     }
-    Out { at: 0, taken }
+    Out {
+        at: 0,
+        taken: false,
+        heard,
+    }
+}
+
+// The end of a script. The status is 0 but where nobody reads the answers on.
+fn end(rt: &impl Eprint, out: Out, unread: u64) -> ExitCode {
+    if !out.heard {
+        return ExitCode::from(UNHEARD);
+    }
+    report(rt, unread);
+    ExitCode::SUCCESS
 }
 
 // Says on standard error how many lines did not read, where there are any. `./drive` knows its status by these words.
-fn report(unread: u64) {
+fn report(rt: &impl Eprint, unread: u64) {
     if unread == 0 {
         return;
     }
-    io::write_all(STDERR_FILENO, b"lines that do not read: ");
-    io::print_decimal(STDERR_FILENO, unread);
-    io::write_all(STDERR_FILENO, b"\n");
+    let _ = eprintln!(rt; "lines that do not read: {unread}");
+}
+
+// Says on standard error what failed and why, in the system's words. The error's number, which std puts behind them, is left out.
+fn fail(rt: &impl Eprint, what: &str, why: Error) {
+    let mut text = Cursor::new([0u8; WHY]);
+    let _ = write!(text, "{why}");
+    let length = text.position() as usize;
+    let bytes = text.into_inner();
+    let words = str::from_utf8(front(&bytes, length)).unwrap_or("");
+    match words.split_once(" (os error ") {
+        Some((cause, _)) => say(rt, what, cause),
+        None => say(rt, what, words),
+    }
+}
+
+// A line on standard error.
+fn say(rt: &impl Eprint, what: &str, why: &str) {
+    let _ = eprintln!(rt; "{what}: {why}");
 }

@@ -1,6 +1,7 @@
-// The switch for programs in C and Rust: a function for each thing that happens to it. All that it holds is the caller's own, in
-// plain numbers (crate state says which), and is lent to each of them; a slice crosses as a pointer and a length.
+// The switch for programs in C and Rust: a function for each thing that happens to it, which crate host_c exports. All that it
+// holds is the caller's own, in plain numbers (crate state says which), and is lent to each of them.
 #![tactic(auto)]
+
 ghost use Rattle.std.specs.Prelude.{◌≡◌, List, ℕ};
 ghost use Rattle.registers.specs.Registers.{image_of};
 ghost use Rattle.state.specs.State.{password_of};
@@ -28,8 +29,7 @@ pub struct Figures {
 
 // Refused, it leaves every array as it was. Accepted, it clears the state first, so that of a switch that stood there nothing is
 // left.
-#[unsafe(no_mangle)]
-pub extern "C" fn melszondru_parts_start(
+pub fn melszondru_parts_start(
     image: &[u8],
     counters: &mut [u16; COUNTERS],
     numbers: &mut [u8; NUMBERS],
@@ -41,8 +41,7 @@ pub extern "C" fn melszondru_parts_start(
     figures_of(wakes::start(image, counters, numbers, paddles, all))
 }
 
-#[unsafe(no_mangle)]
-pub extern "C" fn melszondru_parts_press(
+pub fn melszondru_parts_press(
     counters: &[u16; COUNTERS],
     numbers: &[u8; NUMBERS],
     paddles: &mut [u8; BYTES],
@@ -55,8 +54,7 @@ pub extern "C" fn melszondru_parts_press(
     figures_of(edges::press(counters, numbers, paddles, all, contact, out))
 }
 
-#[unsafe(no_mangle)]
-pub extern "C" fn melszondru_parts_release(
+pub fn melszondru_parts_release(
     counters: &mut [u16; COUNTERS],
     numbers: &mut [u8; NUMBERS],
     paddles: &mut [u8; BYTES],
@@ -69,8 +67,7 @@ pub extern "C" fn melszondru_parts_release(
     figures_of(edges::release(counters, numbers, paddles, all, contact, out))
 }
 
-#[unsafe(no_mangle)]
-pub extern "C" fn melszondru_parts_tick(
+pub fn melszondru_parts_tick(
     counters: &mut [u16; COUNTERS],
     numbers: &mut [u8; NUMBERS],
     paddles: &mut [u8; BYTES],
@@ -83,8 +80,7 @@ pub extern "C" fn melszondru_parts_tick(
 }
 
 // A packet has no business with the paddles: whatever bytes they have, they stay.
-#[unsafe(no_mangle)]
-pub extern "C" fn melszondru_parts_receive(
+pub fn melszondru_parts_receive(
     counters: &mut [u16; COUNTERS],
     numbers: &mut [u8; NUMBERS],
     all: &mut [u8; 256],
@@ -96,8 +92,7 @@ pub extern "C" fn melszondru_parts_receive(
     figures_of(hears::receive(counters, numbers, all, packet, out))
 }
 
-#[unsafe(no_mangle)]
-pub extern "C" fn melszondru_parts_restart(
+pub fn melszondru_parts_restart(
     counters: &mut [u16; COUNTERS],
     numbers: &mut [u8; NUMBERS],
     paddles: &mut [u8; BYTES],
@@ -110,12 +105,7 @@ pub extern "C" fn melszondru_parts_restart(
 }
 
 // The 256 bytes for the owner to save, with the password among them.
-#[unsafe(no_mangle)]
-pub extern "C" fn melszondru_parts_image(
-    numbers: &[u8; NUMBERS],
-    all: &[u8; 256],
-    out: &mut [u8; 256],
-)
+pub fn melszondru_parts_image(numbers: &[u8; NUMBERS], all: &[u8; 256], out: &mut [u8; 256])
     ensures { out.new ≡ image_of all.now (password_of numbers.now) }
 {
     wakes::image(numbers, all, out)
