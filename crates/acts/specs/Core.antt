@@ -1,6 +1,5 @@
 -- The core of a switch: all that it holds besides its registers, its paddles and its password.
-use Rattle.std.specs.Prelude.{List, ℕ, ltb}
-use Rattle.words.specs.Words.{if◌then◌else◌}
+use Rattle.std.specs.Prelude.{List, ℕ, ltb, if◌then◌else◌}
 use Rattle.timers.specs.Timers.{less, beats, metronome}
 use Rattle.units.specs.Units.{off, percent, step_of, percent_of}
 use Rattle.units.specs.declared.Step.{Step}

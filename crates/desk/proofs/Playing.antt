@@ -1,4 +1,5 @@
 -- What the proofs of `play` lean on: starts and events over what their callees promise, and equal rows.
+use Rattle.std.specs.Prelude.{if◌then◌else◌}
 use Prim.Native.Nat.{ℕ, suc, ◌+◌, ◌<◌}
 use native.Mathlib.Numerals.{add-one}
 use mathlib.Core.Bool.{Bool, true, false, ◌&&◌, and-false, false≢true}
@@ -8,7 +9,6 @@ use borrow.Author.Tests.{eq-eqb, eqb-true}
 use lib.Dec.{eqb}
 use lib.ListN.{length, get_or, drop}
 use lib.Seq.{drop-cons}
-use Rattle.words.specs.Words.{if◌then◌else◌}
 use Rattle.vault.specs.Job.{Switch, switch}
 use Rattle.model.specs.Model.{paddle_count}
 use Rattle.panel.specs.Panel.{byte_count}

@@ -1,7 +1,6 @@
 -- What a line of a script does to the switch on the desk, and what is written of it (docs/SCRIPT.md).
 use Prim.Native.Char.{code}
-use Rattle.std.specs.Prelude.{ℕ, Bool, true, false, not, ◌&&◌, List, [], ◌∷◌, eqb, take, replicate}
-use Rattle.words.specs.Words.{if◌then◌else◌}
+use Rattle.std.specs.Prelude.{ℕ, Bool, true, false, not, ◌&&◌, List, [], ◌∷◌, eqb, take, replicate, if◌then◌else◌}
 use Rattle.vault.specs.declared.Password.{Password}
 use Rattle.registers.specs.Registers.{image_of}
 use Rattle.state.specs.State.{counter_count, number_count, password_of}

@@ -1,4 +1,5 @@
 -- What callers use of the dimmer: its closed form after n ticks, when a fade ends, and that nothing leaves 0 to 200.
+use Rattle.std.specs.Prelude.{if◌then◌else◌}
 use mathlib.Core.Path.{◌≡◌, refl, sym, ap, ◌∙◌}
 use mathlib.Core.Bool.{Bool, true, false}
 use Prim.Native.Nat.{ℕ, suc, ◌+◌, ◌*◌, ◌-◌, ◌/◌, ◌%◌, ◌<◌, ◌≤◌, max}
@@ -6,7 +7,6 @@ use native.Mathlib.Nat.{le-div_iff_mul-le, div-lt_iff_lt-mul}
 use native.Mathlib.Omega.{arith}
 use lib.Dec.{ltb, eqb}
 use borrow.Author.Tests.{lt-ltb, le-ltb, eq-eqb, ne_eqb, ltb-true}
-use Rattle.words.specs.Words.{if◌then◌else◌}
 use Rattle.words.proofs.Laws.{both, cases, two_ways, three_ways}
 use Rattle.timers.specs.Timers.{less, beats, metronome, metronome_by, beats_by}
 use Rattle.timers.proofs.Laws.{turned_none, turned_more, beats_none, beats_more, beats_whole}

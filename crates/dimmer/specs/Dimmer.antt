@@ -1,6 +1,5 @@
 -- 01, Levels and fades: a level set, the fade or blink that moves it, a stop, and the ticks in between.
-use Rattle.std.specs.Prelude.{ℕ, ◌+◌, ◌-◌, ◌%◌, ◌≤◌, max, ltb, eqb}
-use Rattle.words.specs.Words.{if◌then◌else◌}
+use Rattle.std.specs.Prelude.{ℕ, ◌+◌, ◌-◌, ◌%◌, ◌≤◌, max, ltb, eqb, if◌then◌else◌}
 use Rattle.timers.specs.Timers.{less, beats, metronome, metronome_by, beats_by}
 use Rattle.units.specs.Units.{step, full, off}
 use Rattle.units.specs.declared.Step.{Step}

@@ -1,7 +1,6 @@
 -- What a paddle's gesture does by the mode it finds (01, Paddles, 6 to 9). The paddle is known by its number; `model` says whether it is
 -- a top one, and whether it drives the load: one that does not leaves the dimmer alone.
-use Rattle.std.specs.Prelude.{List, ℕ, eqb}
-use Rattle.words.specs.Words.{if◌then◌else◌}
+use Rattle.std.specs.Prelude.{List, ℕ, eqb, if◌then◌else◌}
 use Rattle.vault.specs.declared.Mode.{Mode}
 use Rattle.vault.specs.declared.Mode.TheVariants.{Normal, Setup, Factory}
 use Rattle.levels.specs.Levels.{options_of}

@@ -1,6 +1,5 @@
 -- What the code and the proofs are cut by: no promise under the roof needs a definition of this file.
-use Rattle.std.specs.Prelude.{◌≡◌, List, ℕ}
-use Rattle.words.specs.Words.{if◌then◌else◌}
+use Rattle.std.specs.Prelude.{◌≡◌, List, ℕ, if◌then◌else◌}
 use Rattle.units.specs.declared.Percent.{Percent}
 use Rattle.units.specs.Units.{percent}
 use Rattle.vault.specs.declared.Mode.{Mode}

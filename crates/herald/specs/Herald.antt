@@ -1,6 +1,5 @@
 -- What a paddle's gesture sends: its link packet (01, Paddles, 12 to 15).
-use Rattle.std.specs.Prelude.{Bool, true, not, ◌||◌, List, [], ℕ, ◌%◌, eqb}
-use Rattle.words.specs.Words.{if◌then◌else◌}
+use Rattle.std.specs.Prelude.{Bool, true, not, ◌||◌, List, [], ℕ, ◌%◌, eqb, if◌then◌else◌}
 use Rattle.units.specs.declared.Percent.{Percent}
 use Rattle.vault.specs.declared.Mode.{Mode}
 use Rattle.vault.specs.declared.Mode.TheVariants.{Normal, Setup, Factory}

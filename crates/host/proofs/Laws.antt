@@ -1,10 +1,10 @@
 -- The switch's own promises with the answer in figures, and what the caller's arrays stand for.
+use Rattle.std.specs.Prelude.{if◌then◌else◌}
 use mathlib.Core.List.{List}
 use mathlib.Core.Path.{◌≡◌, sym, ap, ◌∙◌}
 use Prim.Native.Nat.{ℕ}
 use lib.ListN.{length, replicate}
 use borrow.Author.Tests.{eq-eqb, ne_eqb}
-use Rattle.words.specs.Words.{if◌then◌else◌}
 use Rattle.words.proofs.Laws.{one_outcome as only}
 use Rattle.vault.specs.Job.{Answered, Switch, switch}
 use Rattle.places.specs.Places.{size}

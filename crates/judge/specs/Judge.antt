@@ -1,6 +1,5 @@
 -- What a packet asks for: the checks 9 to 13 in document 01's order, and the command with its arguments taken apart.
-use Rattle.std.specs.Prelude.{not, List, ℕ}
-use Rattle.words.specs.Words.{if◌then◌else◌}
+use Rattle.std.specs.Prelude.{not, List, ℕ, if◌then◌else◌}
 use Rattle.vault.specs.Vault.{password}
 use Rattle.vault.specs.declared.Mode.{Mode}
 use Rattle.levels.specs.Levels.{options_of}

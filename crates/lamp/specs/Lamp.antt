@@ -1,6 +1,5 @@
 -- The lamp's colours and blinks (01, Lamp, start, factory values, 1 to 4) and the flash of the output (01, Paddles, 10).
-use Rattle.std.specs.Prelude.{Bool, ℕ, ◌/◌, ◌%◌, ◌^◌, ltb, leb, eqb}
-use Rattle.words.specs.Words.{if◌then◌else◌}
+use Rattle.std.specs.Prelude.{Bool, ℕ, ◌/◌, ◌%◌, ◌^◌, ltb, leb, eqb, if◌then◌else◌}
 use Rattle.timers.specs.Timers.{less, metronome}
 use Rattle.units.specs.Units.{full, off}
 use Rattle.units.specs.declared.Step.{Step}

@@ -1,7 +1,6 @@
 -- What is written of a start and of an event (docs/SCRIPT.md, Output).
-use Rattle.std.specs.Prelude.{ℕ, Bool, true, ◌&&◌, List, [], ◌∷◌, ◌++◌, eqb, take, drop}
+use Rattle.std.specs.Prelude.{ℕ, Bool, true, ◌&&◌, List, [], ◌∷◌, ◌++◌, eqb, take, drop, if◌then◌else◌}
 use Prim.Native.Char.{code}
-use Rattle.words.specs.Words.{if◌then◌else◌}
 use Rattle.lamp.specs.declared.Colour.{Colour}
 use Rattle.lamp.specs.declared.Colour.TheVariants.{Black, Red, Green, Orange}
 use Rattle.vault.specs.declared.Mode.{Mode}

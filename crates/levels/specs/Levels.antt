@@ -1,6 +1,5 @@
 -- 01, Levels and fades, 2 to 10: what the bytes that set a level stand for.
-use Rattle.std.specs.Prelude.{Bool, List, [], ◌∷◌, ℕ, ◌*◌, ◌/◌, ◌%◌, ltb, eqb, get_or}
-use Rattle.words.specs.Words.{if◌then◌else◌}
+use Rattle.std.specs.Prelude.{Bool, List, [], ◌∷◌, ℕ, ◌*◌, ◌/◌, ◌%◌, ltb, eqb, get_or, if◌then◌else◌}
 use Rattle.units.specs.Units.{full, percent, step_of}
 use Rattle.units.specs.declared.Step.{Step}
 use Rattle.levels.specs.declared.Options.{Options}

@@ -1,7 +1,6 @@
 -- What is promised of reading beyond the single functions: what a caller may count on, that the case of hex digits and leading zeros
 -- do not matter, and lines with what they say.
-use Rattle.std.specs.Prelude.{ℕ, ◌+◌, ◌≤◌, List, [], ◌∷◌, map, ◌≡◌, length, take, drop}
-use Rattle.words.specs.Words.{if◌then◌else◌}
+use Rattle.std.specs.Prelude.{ℕ, ◌+◌, ◌≤◌, List, [], ◌∷◌, map, ◌≡◌, length, take, drop, if◌then◌else◌}
 use Rattle.line.specs.declared.Line.{Line}
 use Rattle.line.specs.declared.Line.TheVariants.{Pass, Unread, Image, Room, Press, Ticks, Packet, Restart, Dump}
 use Rattle.line.specs.Reading.{bare, between, number_of, hex, hex_of, line_of, Reads}

@@ -1,6 +1,5 @@
 -- How a packet is laid out: one description, by which it is read and written.
-use Rattle.std.specs.Prelude.{ℕ, ◌+◌, ◌-◌, ◌*◌, ◌/◌, ◌%◌, Bool, List, [], ◌∷◌, ◌++◌, eqb, length}
-use Rattle.words.specs.Words.{if◌then◌else◌}
+use Rattle.std.specs.Prelude.{ℕ, ◌+◌, ◌-◌, ◌*◌, ◌/◌, ◌%◌, Bool, List, [], ◌∷◌, ◌++◌, eqb, length, if◌then◌else◌}
 use Rattle.packet.specs.declared.Header.{Header}
 
 -- 01, Packet layout (H), 1: byte 0 is the link bit, two bits that request repeats, and five for the length of the whole packet.

@@ -1,6 +1,5 @@
 -- What the reader answers to any bytes, and which stretch of them is the message.
-use Rattle.std.specs.Prelude.{ℕ, ◌-◌, ◌%◌, not, List, [], ltb, eqb, length, get_or, take, drop}
-use Rattle.words.specs.Words.{if◌then◌else◌}
+use Rattle.std.specs.Prelude.{ℕ, ◌-◌, ◌%◌, not, List, [], ltb, eqb, length, get_or, take, drop, if◌then◌else◌}
 use Rattle.packet.specs.declared.Frame.{Frame}
 use Rattle.packet.specs.declared.Frame.TheVariants.{Read, Short, Long, Length, Sum, Reserved}
 use Rattle.packet.specs.Layout.{whole_in, reserved_in, header_in, total}

@@ -1,11 +1,11 @@
 -- What does not matter of a paddle: how long it has stood, and what is left of timers that nothing waits for.
+use Rattle.std.specs.Prelude.{if◌then◌else◌}
 use mathlib.Core.Bool.{Bool, true, false, ◌||◌}
 use mathlib.Core.Path.{◌≡◌, refl, ap, sym, ◌∙◌}
 use Prim.Native.Nat.{ℕ, zero, suc}
 use native.Mathlib.Omega.{arith}
 use lib.Dec.{leb, eqb}
 use borrow.Author.Tests.{ne_eqb}
-use Rattle.words.specs.Words.{if◌then◌else◌}
 use Rattle.timers.specs.Timers.{less}
 use Rattle.paddle.specs.declared.Contact.{Contact}
 use Rattle.paddle.specs.declared.Contact.TheVariants.{Local, Slave}

@@ -1,11 +1,11 @@
 -- What holds of every paddle, of any number: many ticks at once, the wait for a gesture, presses by their length.
+use Rattle.std.specs.Prelude.{if◌then◌else◌}
 use mathlib.Core.Bool.{Bool, true, false, ◌||◌, or-true, and-false, and-not_self}
 use mathlib.Core.Path.{◌≡◌, refl, ap, sym, ◌∙◌}
 use Prim.Native.Nat.{ℕ, zero, suc, ◌-◌, ◌<◌, ◌≤◌, min, max}
 use native.Mathlib.Omega.{arith}
 use lib.Dec.{ltb, leb, eqb}
 use borrow.Author.Tests.{lt-ltb, le-ltb, le-leb, lt-leb, eq-eqb, ne_eqb, eqb-true, ltb-true}
-use Rattle.words.specs.Words.{if◌then◌else◌}
 use Rattle.words.proofs.Laws.{both, cases, neither, three_ways, two_ways}
 use Rattle.timers.specs.Timers.{less, less_by}
 use Rattle.timers.proofs.Laws.{less_none, less_more}

@@ -1,5 +1,5 @@
 -- What the code and the proofs are cut by: no promise under the roof needs a definition of this file.
-use Rattle.std.specs.Prelude.{Bool, true, false, ◌≡◌, ℕ, eqb}
+use Rattle.std.specs.Prelude.{Bool, true, false, ◌≡◌, ℕ, eqb, if◌then◌else◌}
 use Rattle.paddle.specs.declared.Gesture.{Gesture}
 use Rattle.paddle.specs.declared.Gesture.TheVariants.{Nothing, Taps, Hold, Release}
 use Rattle.paddle.specs.declared.Paddle.{Paddle}
@@ -7,7 +7,6 @@ use Rattle.paddle.specs.declared.Turn.{Turn}
 use Rattle.paddle.specs.Paddle.{gesture, fresh_paddle, pressed, released, gesture_up, completed}
 use Rattle.paddle.specs.declared.Contact.{Contact}
 use Rattle.paddle.specs.Promises.{after, never, Wait, wait, paddle_ticks}
-use Rattle.words.specs.Words.{if◌then◌else◌}
 
 -- A paddle after an event, and the gesture of that event.
 abbrev pub turn : Paddle → Gesture → Turn

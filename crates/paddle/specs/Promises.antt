@@ -1,6 +1,5 @@
 -- What is promised of a paddle beyond one event: many ticks at once, the wait for a gesture, and what does not matter.
-use Rattle.std.specs.Prelude.{Bool, false, ◌≡◌, ℕ, zero, suc, ltb, eqb}
-use Rattle.words.specs.Words.{if◌then◌else◌}
+use Rattle.std.specs.Prelude.{Bool, false, ◌≡◌, ℕ, zero, suc, ltb, eqb, if◌then◌else◌}
 use Rattle.timers.specs.Timers.{less, less_by}
 use Rattle.paddle.specs.declared.Contact.{Contact}
 use Rattle.paddle.specs.declared.Contact.TheVariants.{Local, Slave}

@@ -1,9 +1,8 @@
 -- A page, and what is written on it: text, numbers and hex, and the lines of a run, of a dump, of no switch and of what does not read (docs/SCRIPT.md,
 -- Output).
-use Rattle.std.specs.Prelude.{ℕ, zero, suc, ◌+◌, ◌-◌, ◌/◌, ◌%◌, List, [], ◌∷◌, ◌++◌, ltb, length, set}
+use Rattle.std.specs.Prelude.{ℕ, zero, suc, ◌+◌, ◌-◌, ◌/◌, ◌%◌, List, [], ◌∷◌, ◌++◌, ltb, length, set, if◌then◌else◌}
 use Prim.Native.Char.{code}
 use Prim.Native.String.{String, [] as stop, ◌∷◌ as ◌then◌}
-use Rattle.words.specs.Words.{if◌then◌else◌}
 
 -- A page: lent bytes, and the place where the next one goes.
 pub record Page : Type 0 where

@@ -1,4 +1,5 @@
 -- Keeping paddles as they were read changes nothing, one that is kept leaves the others alone, and what was kept is read back.
+use Rattle.std.specs.Prelude.{if◌then◌else◌}
 use mathlib.Core.Bool.{Bool, true, false, not, ◌&&◌, ◌||◌, true≢false}
 use mathlib.Core.List.{List, [], ◌∷◌, map}
 use mathlib.Core.Path.{◌≡◌, refl, sym, ap, ◌∙◌}
@@ -9,7 +10,7 @@ use lib.Dec.{eqb, leb}
 use lib.ListN.{length, get_or, set, length-set, length-map, replicate}
 use lib.Seq.{set-get_or, get_or-set_same}
 use borrow.Author.Tests.{eqb-true}
-use Rattle.words.specs.Words.{if◌then◌else◌, kept_at}
+use Rattle.words.specs.Words.{kept_at}
 use Rattle.words.proofs.Laws.{neither, kept_back, kept_same, other_place}
 use Rattle.timers.specs.Timers.{less}
 use Rattle.paddle.specs.Paddle.{paddle, fresh_paddle, down, pressed, released, gesture_up, ends, closing, completed, gesture, left, taps_kept, next_paddle}

@@ -1,6 +1,5 @@
 -- What the code and the proofs are cut by: no promise under the roof needs a definition of this file.
-use Rattle.std.specs.Prelude.{Bool, false, not, ◌&&◌, ◌||◌, List, map, ◌≡◌, ℕ, zero, suc, ◌%◌, eqb, leb, get_or, set}
-use Rattle.words.specs.Words.{if◌then◌else◌}
+use Rattle.std.specs.Prelude.{Bool, false, not, ◌&&◌, ◌||◌, List, map, ◌≡◌, ℕ, zero, suc, ◌%◌, eqb, leb, get_or, set, if◌then◌else◌}
 use Rattle.timers.specs.Timers.{less}
 use Rattle.paddle.specs.Paddle.{gesture, next_paddle}
 use Rattle.paddle.specs.declared.Gesture.{Gesture}

@@ -1,6 +1,6 @@
 -- The paddles in their bytes: of each in order its contacts, then of each its taps, then hold, then gap; and what an edge does to them.
-use Rattle.std.specs.Prelude.{Bool, List, [], ◌∷◌, ℕ, zero, suc, ◌+◌, ◌*◌, ◌/◌, ◌%◌, eqb, get_or, set}
-use Rattle.words.specs.Words.{if◌then◌else◌, kept_at}
+use Rattle.std.specs.Prelude.{Bool, List, [], ◌∷◌, ℕ, zero, suc, ◌+◌, ◌*◌, ◌/◌, ◌%◌, eqb, get_or, set, if◌then◌else◌}
+use Rattle.words.specs.Words.{kept_at}
 use Rattle.paddle.specs.Paddle.{paddle, fresh_paddle, pressed, released, gesture_up}
 use Rattle.paddle.specs.declared.Gesture.{Gesture}
 use Rattle.paddle.specs.declared.Paddle.{Paddle}

@@ -1,6 +1,5 @@
 -- What the code and the proofs are cut by: no promise under the roof needs a definition of this file.
-use Rattle.std.specs.Prelude.{◌≡◌, true, List, [], ◌∷◌, ℕ, ltb, length}
-use Rattle.words.specs.Words.{if◌then◌else◌}
+use Rattle.std.specs.Prelude.{◌≡◌, true, List, [], ◌∷◌, ℕ, ltb, length, if◌then◌else◌}
 use Rattle.units.specs.Units.{percent}
 use Rattle.packet.specs.Layout.{header}
 use Rattle.packet.specs.declared.Header.{Header}

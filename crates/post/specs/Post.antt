@@ -1,6 +1,5 @@
 -- What a switch sends: the packets of a message, a reply (01, Commands, 3 and 8), and a packet laid into its place.
-use Rattle.std.specs.Prelude.{Bool, false, List, [], ◌∷◌, ◌++◌, ℕ, min, ltb, length, drop}
-use Rattle.words.specs.Words.{if◌then◌else◌}
+use Rattle.std.specs.Prelude.{Bool, false, List, [], ◌∷◌, ◌++◌, ℕ, min, ltb, length, drop, if◌then◌else◌}
 use Rattle.units.specs.declared.Percent.{Percent}
 use Rattle.packet.specs.Layout.{header, packed}
 use Rattle.packet.specs.declared.Header.{Header}

@@ -1,4 +1,5 @@
 -- The numbers, shown: each is given exactly when its row says, and a refusal leaves nothing behind.
+use Rattle.std.specs.Prelude.{if◌then◌else◌}
 use mathlib.Core.Bool.{Bool, true, false, true≢false}
 use mathlib.Core.List.{List, []}
 use mathlib.Core.Logic.{◌⊎◌, inl, inr, ⊎_elim}
@@ -9,7 +10,6 @@ use borrow.Author.Tests.{eqb-false, eqb-true, le-leb, le-ltb, lt-leb, lt-ltb, lt
 use lib.Dec.{eqb, ltb, leb}
 use lib.ListN.{drop, length}
 use lib.Seq.{set-get_or}
-use Rattle.words.specs.Words.{if◌then◌else◌}
 use Rattle.words.proofs.Laws.{both, cases}
 use Rattle.units.specs.Units.{percent_of}
 use Rattle.packet.specs.Promises.{ReadRow, Sound}

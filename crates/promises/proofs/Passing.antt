@@ -1,4 +1,5 @@
 -- What a tick writes, and which ticks pass Setup unseen.
+use Rattle.std.specs.Prelude.{if◌then◌else◌}
 use mathlib.Core.Bool.{Bool, true, false, ◌||◌, or-true, true≢false, false≢true}
 use mathlib.Core.List.{List, [], ◌∷◌, ◌++◌}
 use mathlib.Core.Logic.{◌⊎◌, inl, inr, ⊎_elim}
@@ -8,7 +9,6 @@ use native.Mathlib.Omega.{arith}
 use borrow.Author.Tests.{eqb-true, le-ltb}
 use lib.Dec.{eqb}
 use lib.ListN.{get_or, length}
-use Rattle.words.specs.Words.{if◌then◌else◌}
 use Rattle.words.proofs.Laws.{cases, two_ways}
 use Rattle.units.specs.Units.{percent_of}
 use Rattle.units.specs.declared.Step.{Step}

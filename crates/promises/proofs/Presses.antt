@@ -1,4 +1,5 @@
 -- Presses seen whole: cases (f) and (g) of a switch at rest, event by event.
+use Rattle.std.specs.Prelude.{if◌then◌else◌}
 use mathlib.Core.Bool.{Bool, true, false}
 use mathlib.Core.List.{List, [], ◌∷◌, ◌++◌, map}
 use mathlib.Core.Path.{◌≡◌, refl, sym, ap, ap₂, ◌∙◌, subst}
@@ -8,7 +9,6 @@ use borrow.Author.Tests.{lt-ltb, ne_eqb}
 use lib.Dec.{eqb}
 use lib.ListN.{drop, get_or, length, set, replicate, length-set, length-map}
 use lib.Seq.{get_or-set_same, set-set}
-use Rattle.words.specs.Words.{if◌then◌else◌}
 use Rattle.words.proofs.Laws.{both, two_ways}
 use Rattle.timers.specs.Timers.{less, less_by}
 use Rattle.units.specs.Units.{percent_of}

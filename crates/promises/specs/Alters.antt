@@ -1,6 +1,5 @@
 -- What can alter a register: the writes of every event, in every mode, and the byte that each of the 256 places holds after them.
-use Rattle.std.specs.Prelude.{true, false, List, [], ◌∷◌, ◌++◌, ◌⊎◌, ◌≡◌, ℕ, ◌+◌, ◌-◌, ◌≤◌, ◌<◌, eqb, ltb, length, get_or, drop}
-use Rattle.words.specs.Words.{if◌then◌else◌}
+use Rattle.std.specs.Prelude.{true, false, List, [], ◌∷◌, ◌++◌, ◌⊎◌, ◌≡◌, ℕ, ◌+◌, ◌-◌, ◌≤◌, ◌<◌, eqb, ltb, length, get_or, drop, if◌then◌else◌}
 use Rattle.units.specs.Units.{percent_of}
 use Rattle.units.specs.declared.Percent.{Percent}
 use Rattle.units.specs.declared.Step.{Step}

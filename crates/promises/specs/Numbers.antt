@@ -1,6 +1,5 @@
 -- 01, Answer numbers: when each of the numbers 0 to 14 is given, event by event, and what a refusal leaves.
-use Rattle.std.specs.Prelude.{Bool, true, false, ◌&&◌, List, [], ◌↔◌, ◌⊎◌, ◌≡◌, ℕ, ◌≤◌, ◌<◌, leb, length}
-use Rattle.words.specs.Words.{if◌then◌else◌}
+use Rattle.std.specs.Prelude.{Bool, true, false, ◌&&◌, List, [], ◌↔◌, ◌⊎◌, ◌≡◌, ℕ, ◌≤◌, ◌<◌, leb, length, if◌then◌else◌}
 use Rattle.packet.specs.Promises.{ReadRow, Sound}
 use Rattle.packet.specs.Reading.{message_of}
 use Rattle.packet.specs.declared.Header.{Header}

@@ -1,6 +1,5 @@
 -- What is seen of a switch over presses and ticks: runs of events, the ticks of a switch that is left to itself, and what a gesture shows.
-use Rattle.std.specs.Prelude.{false, List, [], ◌∷◌, ◌++◌, map, ◌≡◌, ℕ, zero, suc, ◌-◌, ◌/◌, ◌≤◌, ◌<◌, eqb, length}
-use Rattle.words.specs.Words.{if◌then◌else◌}
+use Rattle.std.specs.Prelude.{false, List, [], ◌∷◌, ◌++◌, map, ◌≡◌, ℕ, zero, suc, ◌-◌, ◌/◌, ◌≤◌, ◌<◌, eqb, length, if◌then◌else◌}
 use Rattle.timers.specs.Timers.{beats_by, less, metronome_by}
 use Rattle.units.specs.Units.{off, percent_of, step}
 use Rattle.units.specs.declared.Step.{Step}

@@ -1,6 +1,5 @@
 -- Whom a packet reaches, and which commands it may bring there: the checks 9, 10 and 13.
-use Rattle.std.specs.Prelude.{Bool, true, false, ◌&&◌, ◌||◌, List, ℕ, ltb, eqb}
-use Rattle.words.specs.Words.{if◌then◌else◌}
+use Rattle.std.specs.Prelude.{Bool, true, false, ◌&&◌, ◌||◌, List, ℕ, ltb, eqb, if◌then◌else◌}
 use Rattle.vault.specs.Vault.{in_setup}
 use Rattle.vault.specs.declared.Mode.{Mode}
 use Rattle.vault.specs.declared.Mode.TheVariants.{Normal, Setup, Factory}

@@ -1,6 +1,5 @@
 -- What the code and the proofs are cut by: no promise under the roof needs a definition of this file.
-use Rattle.std.specs.Prelude.{◌≡◌, List, ◌↔◌, ℕ, ◌<◌, eqb, length}
-use Rattle.words.specs.Words.{if◌then◌else◌}
+use Rattle.std.specs.Prelude.{◌≡◌, List, ◌↔◌, ℕ, ◌<◌, eqb, length, if◌then◌else◌}
 use Rattle.places.specs.Places.{size, components, link_of}
 use Rattle.registers.specs.declared.Taken.{Taken}
 use Rattle.registers.specs.declared.Taken.TheVariants.{Apart, Refused}

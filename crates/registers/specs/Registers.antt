@@ -1,6 +1,5 @@
 -- The 256 registers with the password held apart: the array's bytes at 0x02 and 0x03 are dead. And the search for a component.
-use Rattle.std.specs.Prelude.{◌≡◌, Bool, ◌&&◌, List, [], ◌∷◌, ℕ, zero, suc, ◌+◌, ltb, eqb, get_or, set}
-use Rattle.words.specs.Words.{if◌then◌else◌}
+use Rattle.std.specs.Prelude.{◌≡◌, Bool, ◌&&◌, List, [], ◌∷◌, ℕ, zero, suc, ◌+◌, ltb, eqb, get_or, set, if◌then◌else◌}
 use Rattle.vault.specs.Vault.{password}
 use Rattle.vault.specs.declared.Password.{Password}
 use Rattle.places.specs.Places.{size, first_place, second_place, components, link_of}

@@ -1,4 +1,5 @@
 -- What the proofs of the events lean on: what they come to over what their callees promise.
+use Rattle.std.specs.Prelude.{if◌then◌else◌}
 use Prim.Native.Nat.{ℕ, ◌+◌, ◌<◌, min}
 use native.Mathlib.Numerals.{add-one}
 use native.Mathlib.Omega.{arith}
@@ -7,7 +8,6 @@ use mathlib.Core.List.{List, ◌++◌}
 use mathlib.Core.Path.{◌≡◌, sym, ap, ◌∙◌}
 use lib.ListN.{length, set, take, drop, replicate, length-replicate, length-take, replicate-append-replicate, drop_of_length-le}
 use lib.Seq.{take_all, take_at, take-suc-set}
-use Rattle.words.specs.Words.{if◌then◌else◌}
 use Rattle.words.proofs.Laws.{two_ways}
 use Rattle.outbox.specs.Outbox.{placed}
 use Rattle.switch.specs.Switch.{Deed, event, switch_of, arrays}

@@ -1,7 +1,6 @@
 -- The switch on the desk with its buffer, and what an event does to it (docs/SCRIPT.md).
 use Prim.Native.Char.{code}
-use Rattle.std.specs.Prelude.{ℕ, Bool, false, not, List, ◌++◌, ◌≡◌, length, take, drop, replicate}
-use Rattle.words.specs.Words.{if◌then◌else◌}
+use Rattle.std.specs.Prelude.{ℕ, Bool, false, not, List, ◌++◌, ◌≡◌, length, take, drop, replicate, if◌then◌else◌}
 use Rattle.model.specs.Model.{room}
 use Rattle.outbox.specs.Outbox.{placed}
 use Rattle.switch.specs.Switch.{Arrays, arrays, switch_in, kept_in, Deed, press, release, tick, receive, restart, event}

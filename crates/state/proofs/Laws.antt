@@ -1,4 +1,5 @@
 -- Keeping what was read changes nothing, a part that is kept leaves the others alone, and what was kept is read back.
+use Rattle.std.specs.Prelude.{if◌then◌else◌}
 use mathlib.Core.Bool.{Bool, true, false, not, ◌||◌, true≢false}
 use mathlib.Core.List.{List, [], ◌∷◌}
 use mathlib.Core.Path.{◌≡◌, refl, sym, ap, ◌∙◌}
@@ -8,7 +9,7 @@ use lib.Dec.{eqb, ltb}
 use lib.ListN.{length, get_or, set, drop, length-set}
 use lib.Seq.{set-get_or}
 use borrow.Author.Tests.{lt-ltb, eq-eqb, ne_eqb, eqb-true}
-use Rattle.words.specs.Words.{if◌then◌else◌, kept_at}
+use Rattle.words.specs.Words.{kept_at}
 use Rattle.words.proofs.Laws.{cases, kept_back, kept_same, other_place}
 use Rattle.timers.specs.Timers.{less, metronome}
 use Rattle.units.specs.Units.{step}

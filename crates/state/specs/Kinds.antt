@@ -1,6 +1,5 @@
 -- Modes, colours and motions as numbers.
-use Rattle.std.specs.Prelude.{ℕ, eqb}
-use Rattle.words.specs.Words.{if◌then◌else◌}
+use Rattle.std.specs.Prelude.{ℕ, eqb, if◌then◌else◌}
 use Rattle.units.specs.Units.{step}
 use Rattle.vault.specs.declared.Mode.{Mode}
 use Rattle.vault.specs.declared.Mode.TheVariants.{Normal, Setup, Factory}

@@ -1,9 +1,8 @@
 -- How what an event function does comes to be what `Responds` asks.
-use Rattle.std.specs.Prelude.{◌≡◌, ℕ, suc, ◌<◌, ◌≤◌, Bool, List, [], ◌∷◌, length}
+use Rattle.std.specs.Prelude.{◌≡◌, ℕ, suc, ◌<◌, ◌≤◌, Bool, List, [], ◌∷◌, length, if◌then◌else◌}
 use mathlib.Core.Path.{refl, sym, ap, subst, ◌∙◌}
 use native.Mathlib.Omega.{arith}
 use borrow.Author.Tests.{lt-ltb, le-ltb, le-leb, lt-leb, ne_eqb}
-use Rattle.words.specs.Words.{if◌then◌else◌}
 use Rattle.vault.specs.Job.{Answered, changed, became, done, nothing, settled, switch}
 use Rattle.vault.specs.Product
 use Rattle.vault.specs.declared.Password.{Password}

@@ -1,7 +1,6 @@
 -- What each event asks of the switch, as a job. jobOfX is the job that X makes of a state: a deed, its bytes, their frame, its order, its
 -- work. The password is no argument of any of them; a job can hold a guess to compare with it or a function to show it by (vault).
-use Rattle.std.specs.Prelude.{ℕ, List, [], ◌∷◌, map, drop, nat_le, nat_lt}
-use Rattle.words.specs.Words.{if◌then◌else◌}
+use Rattle.std.specs.Prelude.{ℕ, List, [], ◌∷◌, map, drop, nat_le, nat_lt, if◌then◌else◌}
 use Rattle.units.specs.Units.{percent_of}
 use Rattle.vault.specs.Job.{Job, Outcome, compare, done, nothing, outcome, reveal}
 use Rattle.vault.specs.Vault.{in_setup}

@@ -1,6 +1,5 @@
 -- The whole switch: what it answers to any event, and what the contracts of its functions promise.
-use Rattle.std.specs.Prelude.{◌≡◌, ℕ, Bool, List, [], length, replicate, ◌==◌}
-use Rattle.words.specs.Words.{if◌then◌else◌}
+use Rattle.std.specs.Prelude.{◌≡◌, ℕ, Bool, List, [], length, replicate, ◌==◌, if◌then◌else◌}
 use Rattle.vault.specs.Job.{Answered, Switch, switch}
 use Rattle.vault.specs.Product.{Product}
 use Rattle.vault.specs.Product

@@ -1,11 +1,11 @@
 -- The closed forms are those of n single ticks: each is given by what it is at 0 ticks and at one tick more.
+use Rattle.std.specs.Prelude.{if◌then◌else◌}
 use mathlib.Core.Path.{◌≡◌, refl}
 use Prim.Native.Nat.{ℕ, suc, ◌+◌, ◌*◌, ◌-◌, ◌/◌, ◌%◌, ◌<◌, ◌≤◌, max}
 use native.Mathlib.Nat.{zero-mod, zero-div, mod-lt, div-add-mod', div-eq_of_lt, div-eq-sub-div}
 use native.Mathlib.Omega.{arith}
 use lib.Arith.{digits_div, digits_mod}
 use borrow.Author.Tests.{lt-ltb, le-ltb, eq-eqb, ne_eqb}
-use Rattle.words.specs.Words.{if◌then◌else◌}
 use Rattle.words.proofs.Laws.{two_ways, three_ways}
 use Rattle.timers.specs.Timers.{less, beats, metronome, less_by, metronome_by, beats_by}
 

@@ -1,6 +1,5 @@
 -- 01, Events and time, 4: events know no clock. What the switch counts in ticks counts down, by a timer or by a metronome.
-use Rattle.std.specs.Prelude.{Bool, ℕ, ◌+◌, ◌-◌, ◌/◌, ◌%◌, max, ltb, eqb}
-use Rattle.words.specs.Words.{if◌then◌else◌}
+use Rattle.std.specs.Prelude.{Bool, ℕ, ◌+◌, ◌-◌, ◌/◌, ◌%◌, max, ltb, eqb, if◌then◌else◌}
 
 -- A timer one tick later: it holds the ticks left, and stays at 0.
 unfoldable pub less : ℕ → ℕ

@@ -1,6 +1,5 @@
 -- Lists of passwords: which were tried, which are left, and all there are.
-use Rattle.std.specs.Prelude.{Bool, false, ◌||◌, List, [], ◌∷◌, ◌++◌, ◌≡◌, ℕ, zero, suc}
-use Rattle.words.specs.Words.{if◌then◌else◌}
+use Rattle.std.specs.Prelude.{Bool, false, ◌||◌, List, [], ◌∷◌, ◌++◌, ◌≡◌, ℕ, zero, suc, if◌then◌else◌}
 use Rattle.vault.specs.Vault.{matches, password}
 use Rattle.vault.specs.declared.Password.{Password}
 

@@ -1,6 +1,5 @@
 -- An event's job: what it asks of the password, said before the password is known; and the one definition that sees both.
-use Rattle.std.specs.Prelude.{List, [], ◌∷◌, ◌≡◌, ℕ}
-use Rattle.words.specs.Words.{if◌then◌else◌}
+use Rattle.std.specs.Prelude.{List, [], ◌∷◌, ◌≡◌, ℕ, if◌then◌else◌}
 use Rattle.vault.specs.Vault.{matches, password}
 use Rattle.vault.specs.declared.Password.{Password}
 

@@ -1,6 +1,5 @@
 -- Anything that takes events one by one and shows something at each: its run, what is seen of it, and a guest who chooses as he goes.
-use Rattle.std.specs.Prelude.{List, [], ◌∷◌, ◌++◌, ℕ, zero, suc, eqb}
-use Rattle.words.specs.Words.{if◌then◌else◌}
+use Rattle.std.specs.Prelude.{List, [], ◌∷◌, ◌++◌, ℕ, zero, suc, eqb, if◌then◌else◌}
 
 -- Its states and events, what an event shows, and the state after it.
 pub record Machine : Type 1 where

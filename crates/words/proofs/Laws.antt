@@ -1,4 +1,5 @@
 -- Laws that proofs of other crates share.
+use Rattle.std.specs.Prelude.{if◌then◌else◌}
 use mathlib.Core.Bool.{Bool, true, false, cond, ◌||◌, true≢false}
 use mathlib.Core.List.{List, map}
 use mathlib.Core.Path.{◌≡◌, refl, sym, ap, ◌∙◌}
@@ -8,7 +9,7 @@ use lib.Dec.{eqb, ltb}
 use lib.ListN.{get_or, length, length-map, set}
 use lib.Seq.{get_or-set_other, set-get_or}
 use borrow.Author.Tests.{lt-ltb, le-ltb, le-leb, lt-leb, eq-eqb, ne_eqb, eqb-true, ltb-true, ltb-false}
-use Rattle.words.specs.Words.{if◌then◌else◌, kept_at}
+use Rattle.words.specs.Words.{kept_at}
 
 -- What the tests on the way to a place come to: `search tests` closes a return that number tests decide.
 pub ruleset tests = (lt-ltb, le-ltb, le-leb, lt-leb, eq-eqb, ne_eqb)

@@ -1,10 +1,5 @@
 -- Words that definitions of other crates share.
-use Rattle.std.specs.Prelude.{Bool, cond, List, ℕ, ◌<◌, eqb, get_or, set}
-
-infixr 5 if◌then◌else◌
--- The first of two where the test holds, else the second.
-abbrev pub if◌then◌else◌ : {A : Type 0} → Bool → A → A → A
-if b then x else y = cond b x y
+use Rattle.std.specs.Prelude.{List, ℕ, ◌<◌, eqb, get_or, set, if◌then◌else◌}
 
 -- Every number of the list is a byte.
 abbrev pub Bytes : List ℕ → Type 0

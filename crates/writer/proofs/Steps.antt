@@ -1,4 +1,5 @@
 -- What the proofs of the functions lean on: fields put together, and the stores that make a packet.
+use Rattle.std.specs.Prelude.{if◌then◌else◌}
 use Prim.Native.Nat.{ℕ, suc, ◌+◌, ◌*◌, ◌%◌, ◌^◌, ◌≤◌, ◌<◌}
 use native.Mathlib.Nat.{mod-eq_of_lt}
 use native.Mathlib.Omega.{arith}
@@ -9,7 +10,6 @@ use mir.Val.{bool_byte}
 use lib.Bits.{bit_or, or_shifted}
 use lib.ListN.{length, get_or, take, drop, set, length-drop}
 use lib.Seq.{drop-cons, paste, take-length, take_at, set_at, drop-drop, append_snoc}
-use Rattle.words.specs.Words.{if◌then◌else◌}
 use Rattle.packet.specs.declared.Header.{Header}
 use Rattle.packet.specs.Layout.{head_bytes, total, balance, packed}
 

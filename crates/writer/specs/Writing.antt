@@ -1,6 +1,5 @@
 -- What the writer answers, and what it leaves in the lent buffer.
-use Rattle.std.specs.Prelude.{ℕ, ◌+◌, Bool, not, ◌&&◌, List, ◌++◌, ◌≡◌, ltb, leb, length, drop}
-use Rattle.words.specs.Words.{if◌then◌else◌}
+use Rattle.std.specs.Prelude.{ℕ, ◌+◌, Bool, not, ◌&&◌, List, ◌++◌, ◌≡◌, ltb, leb, length, drop, if◌then◌else◌}
 use Rattle.packet.specs.declared.Header.{Header}
 use Rattle.writer.specs.declared.Written.{Written}
 use Rattle.writer.specs.declared.Written.TheVariants.{Packet, Field, Short}

@@ -1,6 +1,5 @@
 -- What the code and the proofs are cut by: no promise under the roof needs a definition of this file.
-use Rattle.std.specs.Prelude.{Bool, false, List, ℕ, zero, suc, ◌+◌, ◌<◌}
-use Rattle.words.specs.Words.{if◌then◌else◌}
+use Rattle.std.specs.Prelude.{Bool, false, List, ℕ, zero, suc, ◌+◌, ◌<◌, if◌then◌else◌}
 use Rattle.places.specs.Places.{secret}
 use Rattle.writes.specs.declared.Write.{Write}
 use Rattle.writes.specs.declared.Write.TheVariants.{Nothing, Count, Save, Preset, Factory, Values}

@@ -1,6 +1,5 @@
 -- All that may be written, and what a write does to the registers and to the password.
-use Rattle.std.specs.Prelude.{Bool, false, ◌&&◌, ◌||◌, List, [], ◌∷◌, ℕ, zero, suc, ◌+◌, ◌-◌, ltb, leb, eqb, length, get_or, set}
-use Rattle.words.specs.Words.{if◌then◌else◌}
+use Rattle.std.specs.Prelude.{Bool, false, ◌&&◌, ◌||◌, List, [], ◌∷◌, ℕ, zero, suc, ◌+◌, ◌-◌, ltb, leb, eqb, length, get_or, set, if◌then◌else◌}
 use Rattle.vault.specs.Job.{Byte, kept, put, Change, change}
 use Rattle.places.specs.Places.{size, first_place, second_place, secret, level_place, saved_place, counter_place}
 use Rattle.writes.specs.declared.Write.{Write}

@@ -1,9 +1,9 @@
+use Rattle.std.specs.Prelude.{if◌then◌else◌}
 use mathlib.Core.Bool.{Bool, true, false}
 use mathlib.Core.Path.{◌≡◌, refl}
 use Prim.Native.Nat.{◌≤◌}
 use native.Mathlib.Omega.{arith}
 use mir.Val.{bool_byte}
-use Rattle.words.specs.Words.{if◌then◌else◌}
 use Rattle.panel.specs.Panel.{contacts_number}
 use Rattle.panel.proofs.contacts_number.Goals as goal
 

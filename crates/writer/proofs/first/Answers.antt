@@ -1,7 +1,7 @@
 -- `first` meets its contract: fields that do not overlap are joined by `|` as by a sum.
+use Rattle.std.specs.Prelude.{if◌then◌else◌}
 use Prim.Native.Nat.{◌+◌, ◌*◌}
 use native.Mathlib.Omega.{arith}
-use Rattle.words.specs.Words.{if◌then◌else◌}
 use Rattle.packet.specs.Layout.{first_byte}
 use Rattle.writer.proofs.Steps.{joined, bit, bit_small}
 use Rattle.writer.proofs.first.Goals as goal
