@@ -19,7 +19,7 @@ use obey::signal;
 use outbox::{Outbox, Sent};
 use paddle::Gesture;
 use panel::BYTES;
-use state::core::{dimmer_of, keep_dimmer, mode_in};
+use state::parts::{dimmer_of, keep_dimmer, mode_in};
 use state::{COUNTERS, NUMBERS, sized};
 use switch::shown;
 use vault::Mode;

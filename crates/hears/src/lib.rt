@@ -11,7 +11,7 @@ use model::ROOM;
 use obey::{hue_of, obey, signal};
 use outbox::Sent;
 use packet::Frame;
-use state::core::{mode_in, password_of};
+use state::parts::{mode_in, password_of};
 use state::{COUNTERS, NUMBERS, sized};
 use switch::shown;
 use verdict::{Verdict, verdict_of};

@@ -8,7 +8,7 @@ ghost use Rattle.state.specs.Code.{CoreKept};
 ghost use Rattle.moves.specs.Code.{passed_core, Moves, Saves};
 
 use acts::next_save;
-use state::core::{
+use state::parts::{
     dimmer_of, idle, keep_dimmer, keep_left, keep_save, keep_timers, lamp_of, left_in, level_in,
     save_in,
 };

@@ -10,7 +10,7 @@ use crate::{move_on, save};
 use model::PADDLES;
 use paddle::Gesture;
 use places::Counter;
-use state::core::{keep_mode, keep_password, keep_timers, lamp_of, mode_in, password_of};
+use state::parts::{keep_mode, keep_password, keep_timers, lamp_of, mode_in, password_of};
 use state::{COUNTERS, NUMBERS, sized};
 use vault::Mode;
 use writes::{Write, apply, password};

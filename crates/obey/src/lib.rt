@@ -18,7 +18,7 @@ use orders::{drive, stored};
 use places::Counter;
 use post::Reply;
 use registers::Seen;
-use state::core::{
+use state::parts::{
     dimmer_of, keep_dimmer, keep_lamp, keep_mode, keep_password, lamp_of, level_in, mode_in,
     password_of,
 };

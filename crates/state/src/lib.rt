@@ -11,8 +11,8 @@
 ghost use Rattle.std.specs.Prelude.{◌≡◌, length};
 ghost use Rattle.state.specs.Code.{Sized};
 
-pub mod core;
 pub mod kinds;
+pub mod parts;
 
 // How many there are of each.
 pub const COUNTERS: usize = 7;

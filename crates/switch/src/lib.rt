@@ -11,7 +11,7 @@ ghost use Rattle.switch.specs.Switch.{answer_with};
 use acts::Core;
 use answers::Answer;
 use outbox::Sent;
-use state::core::core_of;
+use state::parts::core_of;
 use state::{COUNTERS, NUMBERS};
 
 // What is shown of the switch as it is kept.

@@ -17,7 +17,7 @@ use moves::shift::{lone, shift, shifts};
 use outbox::{Outbox, Sent};
 use paddle::Gesture;
 use panel::BYTES;
-use state::core::{core_of, keep, mode_in, password_of, save_in};
+use state::parts::{core_of, keep, mode_in, password_of, save_in};
 use state::{COUNTERS, NUMBERS, sized};
 use switch::{show, shown};
 use turns::turns;

@@ -16,7 +16,7 @@ use outbox::Sent;
 use panel::BYTES;
 use places::Counter;
 use registers::Taken;
-use state::core::{keep, password_of};
+use state::parts::{keep, password_of};
 use state::{COUNTERS, NUMBERS};
 use switch::{show, shown};
 use units::Step;
