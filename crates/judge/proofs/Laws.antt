@@ -231,7 +231,7 @@ in_order all mode h r =
     record {
       count_0 = λ first. rw (heard, there);
       count_17 = λ first. rw (heard, there);
-      past_0x_f_f = λ a b. rw (heard, there);
+      past_0xff = λ a b. rw (heard, there);
       with_argument = λ a. rw (heard, there);
       without = λ l. refused all mode h 13 (0x20 ∷ []) (not_permitted ((r, λ n. n.1.1.1.1.0 refl), omega arith) (λ p. true≢false (sym p ∙ l)));
       outside_normal = λ n a b. refused all mode h 13 (0x03 ∷ a ∷ b ∷ []) (not_permitted ((r, λ k. k.0 refl), omega arith) (λ p. n p.1));

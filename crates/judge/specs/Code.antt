@@ -42,7 +42,7 @@ pub record Examples (all : List ℕ) (mode : Mode) (h : Header) : Type 0 where
   pub count_0 : (first : ℕ) → judged all mode h (0x10 ∷ first ∷ 0 ∷ []) ≡ order.Refused 12
   pub count_17 : (first : ℕ) → judged all mode h (0x10 ∷ first ∷ 17 ∷ []) ≡ order.Refused 12
   -- A Set past 0xFF is 12 in every mode.
-  pub past_0x_f_f : (a b : ℕ) → judged all mode h (0x11 ∷ 0xFF ∷ a ∷ b ∷ []) ≡ order.Refused 12
+  pub past_0xff : (a b : ℕ) → judged all mode h (0x11 ∷ 0xFF ∷ a ∷ b ∷ []) ≡ order.Refused 12
   -- A direct Activate with an argument is 12, without one 13.
   pub with_argument : (a : ℕ) → judged all mode h (0x20 ∷ a ∷ []) ≡ order.Refused 12
   pub without : h.link ≡ false → judged all mode h (0x20 ∷ []) ≡ order.Refused 13

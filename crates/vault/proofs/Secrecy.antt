@@ -104,5 +104,5 @@ keeps_its_password P careful =
       one = keeps once hidden;
       many = keeps (secret_at_once_in_flats (alone P) once) (hidden_flats hidden);
       between_two = secret_between_two P careful;
-      in_setup_lem = secret_in_setup P;
+      in_setup = secret_in_setup P;
     }

@@ -65,4 +65,4 @@ pub record KeepsItsPassword (P : Product) : Type 0 where
   pub one : Keeps (alone P)
   pub many : Keeps (flats (alone P))
   pub between_two : SecretBetweenTwo P
-  pub in_setup_lem : SecretInSetup P
+  pub in_setup : SecretInSetup P
