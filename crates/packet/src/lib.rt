@@ -124,6 +124,7 @@ fn reserved(second: u8) -> u8
     second >> 7 & 1
 }
 
+// Stays as it is: shifts and masks are the form named for the header's bits (docs/DECISIONS.md 81).
 #[tactic(auto, unfolding(crate::specs::Layout::header_in))]
 fn fields(first: u8, second: u8, network: u8, destination: u8, source: u8) -> Header
     ensures { result ≡ header_in first second network destination source }

@@ -76,6 +76,7 @@ fn head(header: Header, size: usize) -> [u8; HEAD]
     ]
 }
 
+// Stays as it is: shifts and masks are the form named for the header's bits (docs/DECISIONS.md 81).
 #[tactic(auto, unfolding(packet::specs::Layout::first_byte))]
 fn first(link: bool, repeat: u8, whole: u8) -> u8
     requires { (repeat ≤ 3) × (whole ≤ 31) }
@@ -97,5 +98,5 @@ fn second(request: u8, count: u8, sequence: u8) -> u8
 fn balance(sum: u8) -> u8
     ensures { result ≡ balance sum }
 {
-    ((256 - sum as u16) % 256) as u8
+    sum.wrapping_neg()
 }
