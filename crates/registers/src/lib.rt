@@ -1,7 +1,7 @@
 // The 256 registers, with the password held apart from them: the bytes at 0x02 and 0x03 are dead.
 #![tactic(auto)]
 
-ghost use Rattle.std.specs.Prelude.{◌≡◌, ◌+◌, ◌<◌, ◌≤◌, length};
+ghost use Rattle.std.specs.Prelude.{◌≡◌, ◌<◌, length};
 ghost use Rattle.registers.specs.Registers.{image_of, range_of, held_at, masked, found, valid};
 ghost use Rattle.registers.specs.Code.{Took};
 

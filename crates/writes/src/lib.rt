@@ -1,7 +1,7 @@
 // All that may be written to the registers, and the one function that writes it.
 #![tactic(auto)]
 
-ghost use Rattle.std.specs.Prelude.{◌≡◌, ◌+◌, ◌-◌, ◌<◌, ◌≤◌, length};
+ghost use Rattle.std.specs.Prelude.{◌≡◌, ◌<◌, length};
 ghost use Rattle.vault.specs.Job.{became, changed};
 ghost use Rattle.writes.specs.Writes.{applied, byte_of, change_of, one_more, factory_by, stored, values_by};
 
