@@ -1,5 +1,5 @@
 -- A received packet, over what its callees promise.
-use Rattle.std.specs.Prelude.{◌≡◌, ℕ, ◌≤◌, Bool, true, false, cond, List, [], length, drop}
+use Rattle.std.specs.Prelude.{◌≡◌, ℕ, ◌≤◌, Bool, true, false, cond, List, [], Result, Ok, Err, length, drop}
 use mathlib.Core.Path.{refl, sym, ap, subst, ◌∙◌}
 use native.Mathlib.Omega.{arith}
 use Rattle.units.specs.Units.{percent_of}
@@ -13,8 +13,7 @@ use Rattle.vault.specs.declared.Mode.{Mode}
 use Rattle.vault.specs.declared.Mode.TheVariants.{Normal, Setup, Factory}
 use Rattle.vault.specs.declared.Password.{Password}
 use Rattle.packet.specs.Reading.{message_from, message_of, number_of_frame, read_of}
-use Rattle.packet.specs.declared.Frame.{Frame}
-use Rattle.packet.specs.declared.Frame.TheVariants as frame
+use Rattle.packet.specs.declared.Flaw.{Flaw}
 use Rattle.packet.specs.declared.Header.{Header}
 use Rattle.model.specs.Model.{place, room}
 use Rattle.judge.specs.Judge.{judged}
@@ -117,15 +116,11 @@ says_stopped (order.Guess guess) source values p w n h =
 says_stopped (order.Read first count) source values p w n h = absurd (apart_verdicts n h)
 says_stopped (order.Work o) source values p w n h = absurd (apart_verdicts n h)
 
--- What `let Frame::Read(..) = frame else` leaves does not read.
-unread : (f : Frame) (message : List ℕ) (p : Plain) → ((h : Header) → f ≡ frame.Read h → ⊥) → job_of_frame f message p ≡ done (garbled (number_of_frame f) p) nothing
+-- What `let Ok(..) = frame else` leaves does not read.
+unread : (f : Result Header Flaw) (message : List ℕ) (p : Plain) → ((h : Header) → f ≡ Ok h → ⊥) → job_of_frame f message p ≡ done (garbled (number_of_frame f) p) nothing
 unfolding job_of_frame
-unread (frame.Read h) message p k = absurd (k h refl)
-unread frame.Short message p k = refl
-unread frame.Long message p k = refl
-unread frame.Length message p k = refl
-unread frame.Sum message p k = refl
-unread frame.Reserved message p k = refl
+unread (Ok h) message p k = absurd (k h refl)
+unread (Err flaw) message p k = refl
 
 -- The signal kept alone.
 pub signal_alone :
@@ -144,16 +139,16 @@ kept_signalled k w hue c n c₁ n₁ c₂ n₂ lamp ready =
     let l = signal_set hue k.lamp in
     record { counted = lamp.counted ∙ ready.counted l; numbered = lamp.numbered ∙ ready.numbered l }
 
-module _ (bytes c n l all out : List ℕ) (enough : room ≤ length out) (f : Frame) (read : f ≡ read_of bytes) where
+module _ (bytes c n l all out : List ℕ) (enough : room ≤ length out) (f : Result Header Flaw) (read : f ≡ read_of bytes) where
   asked : respond (switch_of c n l all) (event (length out) (receive bytes)) ≡ settled (password_of n) (job_of_frame f (message_from f bytes) (switch_of c n l all).plain)
   unfolding job_of_deed job_of_bytes message_of
   asked =
       says (switch_of c n l all).plain (password_of n) (length out) (receive bytes) enough
-      ∙ ap (λ (x : Frame). settled (password_of n) (job_of_frame x (message_from x bytes) (switch_of c n l all).plain)) (sym read)
+      ∙ ap (λ (x : Result Header Flaw). settled (password_of n) (job_of_frame x (message_from x bytes) (switch_of c n l all).plain)) (sym read)
 
   pub garbled_responds :
       (number : ℕ) (c' n' : List ℕ) (none : Sent) (r : Answer) → Sized c n
-      → ((h : Header) → f ≡ frame.Read h → ⊥) → number ≡ number_of_frame f
+      → ((h : Header) → f ≡ Ok h → ⊥) → number ≡ number_of_frame f
       → LampKept (signal_set Black (lamp_of c n)) c n c' n'
       → none ≡ tally [] → r ≡ answer_with number none all (core_of c' n')
       → Responds (receive bytes) c n l all out r c' n' l all out
@@ -163,14 +158,14 @@ module _ (bytes c n l all out : List ℕ) (enough : room ≤ length out) (f : Fr
       (asked ∙ ap (settled (password_of n)) (unread f (message_from f bytes) (switch_of c n l all).plain tag) ∙ rw (unchanged (password_of n), numbered))
       none_sent shows (signal_alone Black c n c' n' kept) (sym (paddles_same l)) refl
 
-  module _ (h : Header) (message : List ℕ) (mode : Mode) (o : Order) (reads : f ≡ frame.Read h) (framed : message ≡ message_from (frame.Read h) bytes) (moded : mode ≡ mode_in n)
+  module _ (h : Header) (message : List ℕ) (mode : Mode) (o : Order) (reads : f ≡ Ok h) (framed : message ≡ message_from (Ok h) bytes) (moded : mode ≡ mode_in n)
       (judges : o ≡ judged all mode h message) where
     ordered : respond (switch_of c n l all) (event (length out) (receive bytes)) ≡ settled (password_of n) (job_of_order o h.source (drop 2 message) (switch_of c n l all).plain)
     unfolding job_of_frame core_of
     ordered =
         asked
-        ∙ ap (λ (x : List ℕ). settled (password_of n) (job_of_frame f x (switch_of c n l all).plain)) (ap (λ (x : Frame). message_from x bytes) reads ∙ sym framed)
-        ∙ ap (λ (x : Frame). settled (password_of n) (job_of_frame x message (switch_of c n l all).plain)) reads
+        ∙ ap (λ (x : List ℕ). settled (password_of n) (job_of_frame f x (switch_of c n l all).plain)) (ap (λ (x : Result Header Flaw). message_from x bytes) reads ∙ sym framed)
+        ∙ ap (λ (x : Result Header Flaw). settled (password_of n) (job_of_frame x message (switch_of c n l all).plain)) reads
         ∙ ap (λ (x : Order). settled (password_of n) (job_of_order x h.source (drop 2 message) (switch_of c n l all).plain)) (ap (λ (x : Mode). judged all x h message) (sym moded) ∙ sym judges)
 
     pub stopped_responds :

@@ -10,7 +10,6 @@ use lamp::Colour;
 use model::ROOM;
 use obey::{hue_of, obey, signal};
 use outbox::Sent;
-use packet::Frame;
 use state::parts::{mode_in, password_of};
 use state::{COUNTERS, NUMBERS, sized};
 use switch::shown;
@@ -30,9 +29,9 @@ pub fn receive(
     }
     sized(counters, numbers);
     let frame = packet::read(packet);
-    let Frame::Read(header) = frame else {
+    let Ok(header) = frame else {
         signal(Colour::Black, counters, numbers);
-        return shown(frame.number(), Sent::none(), counters, numbers, all);
+        return shown(packet::number(frame), Sent::none(), counters, numbers, all);
     };
     let message = packet::message(frame, packet);
     let order = judge::judge(all, mode_in(numbers), header, message);

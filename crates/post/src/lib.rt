@@ -9,7 +9,6 @@ ghost use Rattle.post.specs.Code.{no_note, note_header, sent_of, Laid};
 use packet::Header;
 use registers::Seen;
 use units::Percent;
-use writer::Written;
 
 // First bytes of the two replies; the first one's may be a gesture's message too.
 pub const STATUS: u8 = 0x86;
@@ -161,9 +160,5 @@ fn put(link: bool, network: u8, destination: u8, source: u8, message: &[u8], out
         destination,
         source,
     };
-    let written = writer::write(header, message, out);
-    let Written::Packet(whole) = written else {
-        return 0;
-    };
-    whole
+    writer::write(header, message, out).unwrap_or(0)
 }

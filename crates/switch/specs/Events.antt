@@ -1,15 +1,15 @@
 -- What each event asks of the switch, as a job. jobOfX is the job that X makes of a state: a deed, its bytes, their frame, its order, its
 -- work. The password is no argument of any of them; a job can hold a guess to compare with it or a function to show it by (vault).
-use Rattle.std.specs.Prelude.{ℕ, List, [], ◌∷◌, map, drop, nat_le, nat_lt, if◌then◌else◌}
+use Rattle.std.specs.Prelude.{ℕ, List, [], ◌∷◌, Result, Ok, Err, map, drop, nat_le, nat_lt, if◌then◌else◌}
 use Rattle.units.specs.Units.{percent_of}
 use Rattle.vault.specs.Job.{Job, Outcome, compare, done, nothing, outcome, reveal}
 use Rattle.vault.specs.Vault.{in_setup}
 use Rattle.vault.specs.declared.Password.{Password}
 use Rattle.lamp.specs.declared.Colour.{Colour}
 use Rattle.lamp.specs.declared.Colour.TheVariants.{Black, Red}
-use Rattle.packet.specs.Reading.{read_of, number_of_frame, message_of}
-use Rattle.packet.specs.declared.Frame.{Frame}
-use Rattle.packet.specs.declared.Frame.TheVariants as frame
+use Rattle.packet.specs.Reading.{read_of, number_of_flaw, message_of}
+use Rattle.packet.specs.declared.Header.{Header}
+use Rattle.packet.specs.declared.Flaw.{Flaw}
 use Rattle.paddle.specs.Paddle.{next_paddle}
 use Rattle.paddle.specs.declared.Paddle.{Paddle}
 use Rattle.model.specs.Model.{contact_count, room, paddle_of}
@@ -126,18 +126,14 @@ garbled number p =
     outcome (shown number [] next) next
 
 -- A packet that the reader refuses: the number is the reader's.
-abbrev unread : Frame → Plain → SwitchJob
-unread f p = done (garbled (number_of_frame f) p) nothing
+abbrev unread : Flaw → Plain → SwitchJob
+unread flaw p = done (garbled (number_of_flaw flaw) p) nothing
 
 -- 01, Answer numbers, 1: what the reader refuses is not judged. The values of a Set stand behind the command and the first register.
-unfoldable pub job_of_frame : Frame → List ℕ → Plain → SwitchJob
-job_of_frame (frame.Read header) message p =
+unfoldable pub job_of_frame : Result Header Flaw → List ℕ → Plain → SwitchJob
+job_of_frame (Ok header) message p =
     job_of_order (judged p.registers p.core.mode header message) header.source (drop 2 message) p
-job_of_frame frame.Short message p = unread frame.Short p
-job_of_frame frame.Long message p = unread frame.Long p
-job_of_frame frame.Length message p = unread frame.Length p
-job_of_frame frame.Sum message p = unread frame.Sum p
-job_of_frame frame.Reserved message p = unread frame.Reserved p
+job_of_frame (Err flaw) message p = unread flaw p
 
 -- A received packet is read first.
 unfoldable pub job_of_bytes : List ℕ → Plain → SwitchJob
