@@ -1,5 +1,5 @@
 -- What the proofs of the functions lean on: the writer's promise as a promise of laying, and a buffer with values read into it.
-use Rattle.std.specs.Prelude.{Result, Ok, Err}
+use Rattle.std.specs.Prelude.{Result, Ok, Err, Option}
 use Rattle.std.specs.Result.{result_unwrap_or}
 use mathlib.Core.Bool.{Bool}
 use mathlib.Core.List.{List, [], ◌∷◌, ◌++◌}
@@ -15,8 +15,8 @@ use Rattle.writer.specs.declared.Unwritten.{Unwritten}
 use Rattle.writer.specs.declared.Unwritten.TheVariants.{Field, Short}
 use Rattle.writer.proofs.Laws.{written_length, exactly_written}
 use Rattle.packet.proofs.Laws.{packed_length}
+use Rattle.vault.specs.declared.Password.{Password}
 use Rattle.registers.specs.Registers.{range_of}
-use Rattle.registers.specs.declared.Seen.{Seen}
 use Rattle.post.specs.Post.{enveloped, values_from}
 use Rattle.registers.proofs.Laws.{range_length}
 use Rattle.post.proofs.Laws.{own_ranges, laid_short, placed_short, laid_whole, placed_whole, nothing_laid}
@@ -54,7 +54,7 @@ abbrev space : List ℕ
 space = replicate 16 0
 
 -- A buffer of 18 bytes with the values read into it from byte 2 on: it has room for them, and its front is the message of values.
-module _ (all : List ℕ) (seen : Seen) (first count n : ℕ) (values rest : List ℕ) (n-is : n ≡ min 16 count)
+module _ (all : List ℕ) (seen : Option Password) (first count n : ℕ) (values rest : List ℕ) (n-is : n ≡ min 16 count)
     (values-are : values ≡ range_of all seen first (length (take (2 + n - 2) space))) where
   asked : length (take (2 + n - 2) space) ≡ n
   asked = rw (length-take (2 + n - 2) space) (omega arith)

@@ -1,9 +1,9 @@
 -- What is promised of sending beyond the single functions: our own reader takes every reply.
-use Rattle.std.specs.Prelude.{false, List, [], ◌∷◌, Ok, ◌≡◌, ℕ, ◌≤◌, length}
+use Rattle.std.specs.Prelude.{false, List, [], ◌∷◌, Ok, ◌≡◌, ℕ, ◌≤◌, length, Option}
 use Rattle.units.specs.declared.Percent.{Percent}
 use Rattle.packet.specs.Reading.{read_of, message_of}
 use Rattle.packet.specs.declared.Header.{Header}
-use Rattle.registers.specs.declared.Seen.{Seen}
+use Rattle.vault.specs.declared.Password.{Password}
 use Rattle.post.specs.declared.Reply.{Reply}
 use Rattle.post.specs.Post.{headed, reply_message, replied}
 
@@ -22,5 +22,5 @@ pub record Carries (h : Header) (message p : List ℕ) : Type 0 where
 -- Every reply is read as a direct packet of our network and unit to the sender, with the message of the reply.
 abbrev pub RepliedReads : Type 0
 RepliedReads =
-    (all : List ℕ) (seen : Seen) (to : ℕ) (reply : Reply) (p : Percent)
+    (all : List ℕ) (seen : Option Password) (to : ℕ) (reply : Reply) (p : Percent)
     → Each (Carries (headed all false to) (reply_message all seen reply p)) (replied all seen to reply p)

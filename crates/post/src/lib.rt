@@ -7,8 +7,8 @@ ghost use Rattle.post.specs.Post.{replied, values_from, headed, enveloped};
 ghost use Rattle.post.specs.Code.{no_note, note_header, sent_of, Laid};
 
 use packet::Header;
-use registers::Seen;
 use units::Percent;
+use vault::Password;
 
 // First bytes of the two replies; the first one's may be a gesture's message too.
 pub const STATUS: u8 = 0x86;
@@ -99,7 +99,7 @@ fn link(note: Note, message: &[u8], out: &mut [u8]) -> u8
 #[tactic(auto, using(crate::proofs::Laws::laid_nothing, crate::proofs::Laws::placed_nothing), unfolding(crate::specs::Code::front, crate::specs::Post::replied, crate::specs::Post::reply_message, crate::specs::Post::bytes_of, crate::specs::Post::enveloped))]
 pub fn send(
     all: &[u8; 256],
-    seen: Seen,
+    seen: Option<Password>,
     to: u8,
     reply: Reply,
     percent: Percent,
@@ -117,7 +117,14 @@ pub fn send(
     }
 }
 
-fn send_values(all: &[u8; 256], seen: Seen, to: u8, first: u8, count: u8, out: &mut [u8]) -> u8
+fn send_values(
+    all: &[u8; 256],
+    seen: Option<Password>,
+    to: u8,
+    first: u8,
+    count: u8,
+    out: &mut [u8],
+) -> u8
     ensures { Laid (enveloped (headed all.now false to) (values_from all.now seen first count)) out.old result out.new }
 {
     let mut bytes = [0u8; 18];
