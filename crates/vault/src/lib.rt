@@ -4,12 +4,12 @@
 ghost use Rattle.std.specs.Prelude.{◌≡◌};
 ghost use Rattle.vault.specs.Vault.{mode_of, mode_number, matches};
 
-// `Factory` is Factory Default. As numbers they are 0, 1 and 2 in this order.
+// `Factory` is Factory Default.
 #[derive(Clone, Copy, Debug, PartialEq, Eq)]
 pub enum Mode {
-    Normal,
-    Setup,
-    Factory,
+    Normal = 0,
+    Setup = 1,
+    Factory = 2,
 }
 
 impl From<u8> for Mode {
