@@ -1,4 +1,5 @@
 // Motions as numbers, and back.
+// Stays as it is: a motion is read from four numbers and told as its kind alone, so no pair of From would turn it there and back.
 ghost use Rattle.std.specs.Prelude.{◌≡◌};
 ghost use Rattle.state.specs.Kinds.{motion_of, kind_number};
 
