@@ -76,7 +76,7 @@ fn commanded(
     if !verb.suits(message) {
         return Order::Refused(12);
     }
-    let options = Options::of(places::dimming(all));
+    let options = Options::from(places::dimming(all));
     if !permitted(verb, target, mode, source, options.capable) {
         return Order::Refused(13);
     }

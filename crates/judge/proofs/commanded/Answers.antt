@@ -20,7 +20,7 @@ returns-then-not-permitted c =
       ← c.suits.ensures,
       c.if-not-suits.false-raw,
       ← c.dimming.ensures,
-      ← c.of-options.ensures,
+      ← c.from-options.ensures,
       ← c.permitted.ensures,
       c.if-not-permitted.true-raw,
     )
@@ -35,7 +35,7 @@ returns c =
       ← c.suits.ensures,
       c.if-not-suits.false-raw,
       ← c.dimming.ensures,
-      ← c.of-options.ensures,
+      ← c.from-options.ensures,
       ← c.permitted.ensures,
       c.if-not-permitted.false-raw,
     ))
