@@ -23,6 +23,7 @@ use state::parts::{
     password_of,
 };
 use state::{COUNTERS, NUMBERS, sized};
+use units::Percent;
 use vault::Mode;
 use verdict::seen_by;
 use writes::{Write, apply};
@@ -47,7 +48,7 @@ pub fn obey(
             0
         }
         Order::Read { first, count } => {
-            let percent = level_in(numbers).percent();
+            let percent = Percent::from(level_in(numbers));
             let seen = seen_by(mode_in(numbers), password_of(numbers));
             let reply = Reply::Registers { first, count };
             post::send(all, seen, source, reply, percent, out)
@@ -69,7 +70,7 @@ fn perform(
 {
     match work {
         Work::Report => {
-            let percent = level_in(numbers).percent();
+            let percent = Percent::from(level_in(numbers));
             post::send(all, Seen::Hidden, source, Reply::Status, percent, out)
         }
         Work::Close => {
