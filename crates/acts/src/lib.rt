@@ -10,6 +10,7 @@ use dimmer::Dimmer;
 use lamp::{Colour, Lamp};
 use levels::Options;
 use places::Counter;
+use timers::{Timer, turn};
 use units::{Percent, Step};
 use vault::Mode;
 use writes::Write;
@@ -43,7 +44,7 @@ impl Core {
             mode: Mode::Normal,
             dimmer: Dimmer::fresh(level),
             lamp: Lamp::fresh(),
-            save: timers::run(SAVE),
+            save: SAVE.run(),
         }
     }
 
@@ -70,7 +71,7 @@ impl Core {
     {
         if self.save == 0 {
             let dimmer = self.dimmer;
-            return Write::Save(dimmer.level.percent());
+            return Write::Save(Percent::from(dimmer.level));
         }
         Write::Nothing
     }
@@ -141,14 +142,14 @@ impl Core {
 pub fn next_save(save: u16) -> u16
     ensures { result ≡ metronome save_ticks save }
 {
-    timers::turn(SAVE, save)
+    turn(SAVE, save)
 }
 
 // Sets a level by what 0x8D says now.
 pub fn set_by(dimmer: Dimmer, all: &[u8; 256], level: u8, rate: u8) -> Dimmer
     ensures { result ≡ set_by all.now level rate dimmer }
 {
-    let options = Options::of(places::dimming(all));
+    let options = Options::from(places::dimming(all));
     dimmer.set(level, rate, options)
 }
 
@@ -168,5 +169,5 @@ fn start_level(saved: u8) -> Step
     if 100 < saved {
         return Step::OFF;
     }
-    Percent(saved).step()
+    Step::from(Percent(saved))
 }

@@ -10,7 +10,7 @@ use borrow.Author.Tests.{lt-ltb, le-ltb, eq-eqb, ne_eqb, ltb-true}
 use Rattle.words.proofs.Laws.{both, cases, two_ways, three_ways}
 use Rattle.timers.specs.Timers.{less, beats, metronome, metronome_by, beats_by}
 use Rattle.timers.proofs.Laws.{turned_none, turned_more, beats_none, beats_more, beats_whole}
-use Rattle.units.specs.Units.{step, full, off, percent, step_of}
+use Rattle.units.specs.Units.{step, full, off, percent, step_of, opposite}
 use Rattle.units.proofs.Laws.{step_within}
 use Rattle.units.specs.declared.Step.{Step}
 use Rattle.levels.specs.declared.Options.{Options}
@@ -18,7 +18,7 @@ use Rattle.dimmer.specs.declared.Motion.{Motion}
 use Rattle.dimmer.specs.declared.Motion.TheVariants.{Idle, Fading, Blinking}
 use Rattle.dimmer.specs.declared.Dimmer.{Dimmer}
 use Rattle.levels.specs.Levels.{ticks_per_step, wanted, rate_of, allowed, remembered, flip_ticks}
-use Rattle.dimmer.specs.Dimmer.{dimmer, fresh_dimmer, heading_to, set_to, stopped_from, stopped, TargetWithin, Within, set_blinking, towards, stepped, flipped, faded, flickered, ticked, ticked_from, distance, walked, gone, flipped_by, ticked_by_from, ticked_by}
+use Rattle.dimmer.specs.Dimmer.{dimmer, fresh_dimmer, heading_to, set_to, stopped_from, stopped, TargetWithin, Within, set_blinking, towards, stepped, faded, flickered, ticked, ticked_from, distance, walked, gone, flipped_by, ticked_by_from, ticked_by}
 use Rattle.dimmer.specs.Code.{running, EndsAfter}
 
 -- A stop where nothing runs changes nothing.
@@ -99,11 +99,11 @@ module _ (level last target : Step) (period : ℕ) where
       go false e = simp e (gone_on b left e)
 
 -- One flip more.
-flipped_twice : (level : Step) → flipped (flipped (flipped level)) ≡ flipped level
-unfolding flipped
-flipped_twice level = cases (λ (l : Step). flipped (flipped l) ≡ l) (eqb level.0 0) (λ e. refl) (λ e. refl)
+opposite_twice : (level : Step) → opposite (opposite (opposite level)) ≡ opposite level
+unfolding opposite
+opposite_twice level = cases (λ (l : Step). opposite (opposite l) ≡ l) (eqb level.0 0) (λ e. refl) (λ e. refl)
 
-flip_more : (b : ℕ) (level : Step) → flipped (flipped_by b level) ≡ flipped_by (b + 1) level
+flip_more : (b : ℕ) (level : Step) → opposite (flipped_by b level) ≡ flipped_by (b + 1) level
 unfolding flipped_by
 flip_more b level =
     three_ways b 0
@@ -111,7 +111,7 @@ flip_more b level =
     (λ h. simp (eq-eqb b 0 h, ne_eqb (b + 1) 0 (omega arith), eq-eqb ((b + 1) % 2) 1 (omega arith)))
     (λ h.
     two_ways (b % 2) 1
-    (λ k. simp (ne_eqb b 0 (omega arith), ne_eqb (b % 2) 1 (omega arith), ne_eqb (b + 1) 0 (omega arith), eq-eqb ((b + 1) % 2) 1 (omega arith)) (flipped_twice level))
+    (λ k. simp (ne_eqb b 0 (omega arith), ne_eqb (b % 2) 1 (omega arith), ne_eqb (b + 1) 0 (omega arith), eq-eqb ((b + 1) % 2) 1 (omega arith)) (opposite_twice level))
     (λ k. simp (ne_eqb b 0 (omega arith), eq-eqb (b % 2) 1 (omega arith), ne_eqb (b + 1) 0 (omega arith), ne_eqb ((b + 1) % 2) 1 (omega arith))))
 
 flicker_more : (b : ℕ) (level last : Step) (period left : ℕ) → flickered (flipped_by b level) last period left ≡ dimmer (flipped_by (if beats left then b + 1 else b) level) last (Blinking period (metronome period left))
@@ -192,7 +192,7 @@ unfolding flip_ticks
 blink_takes value = three_ways value 0 (λ k. absurd (omega arith)) (λ k. simp (eq-eqb value 0 k) (omega arith)) (λ k. simp (ne_eqb value 0 (omega arith)) (omega arith))
 
 flips_shown : (b : ℕ) → flipped_by b full ≡ (if eqb (b % 2) 0 then full else off)
-unfolding flipped_by flipped
+unfolding flipped_by opposite
 flips_shown b =
     three_ways b 0
     (λ h. absurd (omega arith))
@@ -253,7 +253,7 @@ towards_within level target h k =
     (λ e. both (λ (s : Step). s.0 ≤ 200) (ltb target.0 level.0) (omega arith) h)
 
 ticked_within_from : (level last : Step) (motion : Motion) → level.0 ≤ 200 → last.0 ≤ 200 → TargetWithin motion → Within (ticked_from level last motion)
-unfolding ticked_from faded stepped flickered flipped
+unfolding ticked_from faded stepped flickered opposite
 ticked_within_from level last Idle h k b = record { level = h; last = k; motion = tt }
 ticked_within_from level last (Fading target period left) h k b =
     both Within (eqb left 0)

@@ -1,7 +1,7 @@
 -- 01, Levels and fades: a level set, the fade or blink that moves it, a stop, and the ticks in between.
 use Rattle.std.specs.Prelude.{ℕ, ◌+◌, ◌-◌, ◌%◌, ◌≤◌, max, ltb, eqb, if◌then◌else◌}
 use Rattle.timers.specs.Timers.{less, beats, metronome, metronome_by, beats_by}
-use Rattle.units.specs.Units.{step, full, off}
+use Rattle.units.specs.Units.{step, full, opposite}
 use Rattle.units.specs.declared.Step.{Step}
 use Rattle.levels.specs.Levels.{allowed, flip_ticks, rate_of, remembered, ticks_per_step, wanted}
 use Rattle.levels.specs.declared.Options.{Options}
@@ -43,10 +43,6 @@ stepped level last target period =
     if eqb (towards level target).0 target.0 then dimmer target last Idle
     else dimmer (towards level target) last (Fading target period (less period))
 
--- 01, Levels and fades, 10: a flip leads from off to full, and from any other step to off.
-unfoldable pub flipped : Step → Step
-flipped level = if eqb level.0 0 then full else off
-
 -- 01, Levels and fades, 10 to 12: Blink begins full, leaves the Last On Level alone, and replaces whatever ran.
 unfoldable pub set_blinking : Dimmer → ℕ → Dimmer
 set_blinking d value = dimmer full d.last (Blinking (flip_ticks value) (less (flip_ticks value)))
@@ -70,7 +66,7 @@ faded level last target period left =
 -- 01, Levels and fades, 10: a blink one tick later, with a flip where its metronome beats.
 unfoldable pub flickered : Step → Step → ℕ → ℕ → Dimmer
 flickered level last period left =
-    dimmer (if beats left then flipped level else level) last (Blinking period (metronome period left))
+    dimmer (if beats left then opposite level else level) last (Blinking period (metronome period left))
 
 -- One tick later, by what runs.
 unfoldable pub ticked_from : Step → Step → Motion → Dimmer
@@ -114,8 +110,8 @@ gone steps left level last target period =
 unfoldable pub flipped_by : ℕ → Step → Step
 flipped_by flips level =
     if eqb flips 0 then level
-    else if eqb (flips % 2) 1 then flipped level
-    else flipped (flipped level)
+    else if eqb (flips % 2) 1 then opposite level
+    else opposite (opposite level)
 
 -- n ticks later, in closed form: a fade has gone as many steps as its metronome has beaten, and a blink has flipped as often.
 unfoldable pub ticked_by_from : ℕ → Step → Step → Motion → Dimmer

@@ -2,13 +2,17 @@
 #![tactic(auto)]
 
 ghost use Rattle.std.specs.Prelude.{◌≡◌};
-ghost use Rattle.dimmer.specs.Dimmer.{heading_to, fresh_dimmer, set_to, stopped, set_blinking, towards, flipped, stepped, faded, flickered, ticked};
+ghost use Rattle.dimmer.specs.declared.Motion.TheVariants.{Idle, Fading};
+ghost use Rattle.dimmer.specs.Dimmer.{dimmer, heading_to, fresh_dimmer, set_to, stopped, set_blinking, towards, stepped, faded, flickered, ticked};
 
 use levels::{Options, allowed, blink_ticks, remembered, ticks, wanted};
+use std::cmp::Ordering;
+use timers::{Timer, turn};
 use units::Step;
 
 // What moves the level. `left` is the metronome of a fade's steps or a blink's flips.
-#[derive(Clone, Copy)]
+// Stays as it is: 01 names the form, an enum of idle, fading or blinking in the dimmer, and no Option.
+#[derive(Clone, Copy, Debug, PartialEq, Eq)]
 pub enum Motion {
     Idle,
     Fading {
@@ -32,6 +36,7 @@ pub struct Dimmer {
 
 impl Dimmer {
     // The dimmer after a start or restart.
+    #[tactic(auto, unfolding(crate::specs::Dimmer::fresh_dimmer))]
     pub fn fresh(level: Step) -> Dimmer
         ensures { result ≡ fresh_dimmer level }
     {
@@ -43,191 +48,145 @@ impl Dimmer {
     }
 
     // Sets a level in percents; one past 100 is the Last On Level.
+    #[tactic(auto, unfolding(crate::specs::Dimmer::set_to))]
     pub fn set(self, level: u8, rate: u8, options: Options) -> Dimmer
         ensures { result ≡ set_to self level rate options }
     {
-        let from = self.level;
-        let last = self.last;
-        let target = allowed(options.capable, wanted(level, last));
-        moved(
-            from,
-            remembered(target, last),
-            target,
-            ticks(options.rate(rate)),
-        )
+        let target = allowed(options.capable, wanted(level, self.last));
+        let last = remembered(target, self.last);
+        Dimmer { last, ..self }.moved(target, ticks(options.rate(rate)))
     }
 
     // Stops what runs and remembers its step.
+    #[tactic(auto, unfolding(crate::specs::Dimmer::stopped, crate::specs::Dimmer::stopped_from))]
     pub fn stop(self) -> Dimmer
         ensures { result ≡ stopped self }
     {
-        let level = self.level;
-        let last = self.last;
-        let motion = self.motion;
-        match motion {
-            Motion::Idle => self,
-            Motion::Fading { .. } => Dimmer {
-                level,
-                last: remembered(level, last),
-                motion: Motion::Idle,
-            },
-            Motion::Blinking { .. } => Dimmer {
-                level,
-                last: remembered(level, last),
-                motion: Motion::Idle,
-            },
+        if self.motion == Motion::Idle {
+            return self;
+        }
+        Dimmer {
+            last: remembered(self.level, self.last),
+            motion: Motion::Idle,
+            ..self
         }
     }
 
     // Full at once, and then a flip every four ticks times the value.
+    #[tactic(auto, unfolding(crate::specs::Dimmer::set_blinking))]
     pub fn blink(self, value: u8) -> Dimmer
         ensures { result ≡ set_blinking self value }
     {
-        let last = self.last;
         let period = blink_ticks(value);
         Dimmer {
             level: Step::FULL,
-            last,
             motion: Motion::Blinking {
                 period,
-                left: timers::run(period),
+                left: period.run(),
             },
+            ..self
         }
     }
 
+    #[tactic(auto, unfolding(crate::specs::Dimmer::ticked, crate::specs::Dimmer::ticked_from))]
     pub fn tick(self) -> Dimmer
         ensures { result ≡ ticked self }
     {
-        let level = self.level;
-        let last = self.last;
-        let motion = self.motion;
-        match motion {
-            Motion::Idle => Dimmer {
-                level,
-                last,
-                motion,
-            },
+        match self.motion {
+            Motion::Idle => self,
             Motion::Fading {
                 target,
                 period,
                 left,
-            } => faded(level, last, target, period, left),
-            Motion::Blinking { period, left } => flickered(level, last, period, left),
+            } => self.faded(target, period, left),
+            Motion::Blinking { period, left } => self.flickered(period, left),
+        }
+    }
+
+    // A fade begins where there is a way to go and time to take for it.
+    #[tactic(auto, unfolding(crate::specs::Dimmer::heading_to))]
+    fn moved(self, target: Step, ticks: u16) -> Dimmer
+        ensures { result ≡ heading_to self.level self.last target ticks }
+    {
+        if ticks == 0 || self.level == target {
+            return self.resting(target);
+        }
+        self.fading(target, ticks, ticks.run())
+    }
+
+    // One tick of a fade.
+    #[tactic(auto, unfolding(crate::specs::Dimmer::faded))]
+    fn faded(self, target: Step, period: u16, left: u16) -> Dimmer
+        ensures { result ≡ faded self.level self.last target period left }
+    {
+        if left == 0 {
+            return self.stepped(target, period);
+        }
+        self.fading(target, period, left.run())
+    }
+
+    // A fade's next step; with the last one it is over.
+    #[tactic(auto, unfolding(crate::specs::Dimmer::stepped))]
+    fn stepped(self, target: Step, period: u16) -> Dimmer
+        ensures { result ≡ stepped self.level self.last target period }
+    {
+        let level = towards(self.level, target);
+        if level == target {
+            return self.resting(target);
+        }
+        Dimmer { level, ..self }.fading(target, period, period.run())
+    }
+
+    // One tick of a blink.
+    #[tactic(auto, unfolding(crate::specs::Dimmer::flickered))]
+    fn flickered(self, period: u16, left: u16) -> Dimmer
+        ensures { result ≡ flickered self.level self.last period left }
+    {
+        Dimmer {
+            level: if left == 0 {
+                self.level.opposite()
+            } else {
+                self.level
+            },
+            motion: Motion::Blinking {
+                period,
+                left: turn(period, left),
+            },
+            ..self
+        }
+    }
+
+    fn fading(self, target: Step, period: u16, left: u16) -> Dimmer
+        ensures { result ≡ dimmer self.level self.last (Fading target period left) }
+    {
+        Dimmer {
+            motion: Motion::Fading {
+                target,
+                period,
+                left,
+            },
+            ..self
+        }
+    }
+
+    fn resting(self, level: Step) -> Dimmer
+        ensures { result ≡ dimmer level self.last Idle }
+    {
+        Dimmer {
+            level,
+            motion: Motion::Idle,
+            ..self
         }
     }
 }
 
-// A fade begins where there is a way to go and time to take for it.
-fn moved(from: Step, last: Step, target: Step, ticks: u16) -> Dimmer
-    ensures { result ≡ heading_to from last target ticks }
-{
-    if ticks == 0 {
-        return Dimmer {
-            level: target,
-            last,
-            motion: Motion::Idle,
-        };
-    }
-    if from.0 == target.0 {
-        return Dimmer {
-            level: target,
-            last,
-            motion: Motion::Idle,
-        };
-    }
-    Dimmer {
-        level: from,
-        last,
-        motion: Motion::Fading {
-            target,
-            period: ticks,
-            left: timers::run(ticks),
-        },
-    }
-}
-
-// One tick of a fade.
-fn faded(level: Step, last: Step, target: Step, period: u16, left: u16) -> Dimmer
-    ensures { result ≡ faded level last target period left }
-{
-    if left == 0 {
-        return stepped(level, last, target, period);
-    }
-    Dimmer {
-        level,
-        last,
-        motion: Motion::Fading {
-            target,
-            period,
-            left: timers::run(left),
-        },
-    }
-}
-
-// A fade's next step; with the last one it is over.
-fn stepped(level: Step, last: Step, target: Step, period: u16) -> Dimmer
-    ensures { result ≡ stepped level last target period }
-{
-    let next = towards(level, target);
-    if next.0 == target.0 {
-        return Dimmer {
-            level: target,
-            last,
-            motion: Motion::Idle,
-        };
-    }
-    Dimmer {
-        level: next,
-        last,
-        motion: Motion::Fading {
-            target,
-            period,
-            left: timers::run(period),
-        },
-    }
-}
-
+#[tactic(auto, unfolding(crate::specs::Dimmer::towards))]
 fn towards(level: Step, target: Step) -> Step
     ensures { result ≡ towards level target }
 {
-    let here = level.0;
-    let there = target.0;
-    if here < there {
-        return Step(here + 1);
+    match level.cmp(&target) {
+        Ordering::Less => Step(level.0 + 1),
+        Ordering::Equal => level,
+        Ordering::Greater => Step(level.0 - 1),
     }
-    if there < here {
-        return Step(here - 1);
-    }
-    level
-}
-
-// One tick of a blink.
-fn flickered(level: Step, last: Step, period: u16, left: u16) -> Dimmer
-    ensures { result ≡ flickered level last period left }
-{
-    let motion = Motion::Blinking {
-        period,
-        left: timers::turn(period, left),
-    };
-    if left == 0 {
-        return Dimmer {
-            level: flipped(level),
-            last,
-            motion,
-        };
-    }
-    Dimmer {
-        level,
-        last,
-        motion,
-    }
-}
-
-fn flipped(level: Step) -> Step
-    ensures { result ≡ flipped level }
-{
-    if level.0 == 0 {
-        return Step::FULL;
-    }
-    Step::OFF
 }

@@ -22,6 +22,7 @@ use panel::BYTES;
 use state::parts::{dimmer_of, keep_dimmer, mode_in};
 use state::{COUNTERS, NUMBERS, sized};
 use switch::shown;
+use units::Percent;
 use vault::Mode;
 
 // A press moves its paddle alone.
@@ -84,7 +85,7 @@ fn let_go(
     let mode = mode_in(numbers);
     let dimmer = ended(paddle, mode, dimmer_of(counters, numbers));
     keep_dimmer(dimmer, counters, numbers);
-    let percent = dimmer.level.percent();
+    let percent = Percent::from(dimmer.level);
     let note = herald::announce(all, mode, paddle, Gesture::Release, percent);
     let sent = Outbox::none().with(note).lay(out);
     if sent.count == 0 {

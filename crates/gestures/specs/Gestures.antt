@@ -7,7 +7,7 @@ use Rattle.levels.specs.Levels.{options_of}
 use Rattle.paddle.specs.declared.Gesture.{Gesture}
 use Rattle.paddle.specs.declared.Gesture.TheVariants.{Nothing, Taps, Hold, Release}
 use Rattle.model.specs.Model.{is_top}
-use Rattle.places.specs.Places.{single_in, double_in, dimming_in}
+use Rattle.places.specs.Places.{action_in, dimming_in}
 use Rattle.places.specs.declared.Action.{Action}
 use Rattle.places.specs.declared.Counter.TheVariants.{Setups}
 use Rattle.writes.specs.declared.Write.{Write}
@@ -31,8 +31,8 @@ holding all paddle c = if (options_of (dimming_in all)).capable then setting all
 -- 01, Paddles, 6: one tap and two act by the table, five open Setup.
 unfoldable pub taps_in_normal : List ℕ → ℕ → ℕ → Core → Effect
 taps_in_normal all paddle taps c =
-    if eqb taps 1 then unwritten (by_action all paddle (single_in all paddle) c)
-    else if eqb taps 2 then unwritten (by_action all paddle (double_in all paddle) c)
+    if eqb taps 1 then unwritten (by_action all paddle (action_in all paddle 1) c)
+    else if eqb taps 2 then unwritten (by_action all paddle (action_in all paddle 2) c)
     else if eqb taps 5 then opened c
     else unwritten c
 
@@ -60,7 +60,7 @@ acted_in_setup Release c = unwritten c
 -- 01, Paddles, 9: two taps leave Factory Default, one acts as in Normal, five do nothing.
 unfoldable pub taps_in_factory : List ℕ → ℕ → ℕ → Core → Effect
 taps_in_factory all paddle taps c =
-    if eqb taps 1 then unwritten (by_action all paddle (single_in all paddle) c)
+    if eqb taps 1 then unwritten (by_action all paddle (action_in all paddle 1) c)
     else if eqb taps 2 then unwritten (entering Normal c)
     else unwritten c
 

@@ -60,10 +60,10 @@ fn taps_in_normal(core: Core, all: &[u8; 256], paddle: u8, taps: u8) -> Effect
     ensures { result ≡ taps_in_normal all.now paddle taps core }
 {
     if taps == 1 {
-        return doing(core, all, paddle, places::single(all, paddle)).unwritten();
+        return doing(core, all, paddle, places::action_of(all, paddle, 1)).unwritten();
     }
     if taps == 2 {
-        return doing(core, all, paddle, places::double(all, paddle)).unwritten();
+        return doing(core, all, paddle, places::action_of(all, paddle, 2)).unwritten();
     }
     if taps == 5 {
         return core.opened();
@@ -92,7 +92,7 @@ fn taps_in_factory(core: Core, all: &[u8; 256], paddle: u8, taps: u8) -> Effect
     ensures { result ≡ taps_in_factory all.now paddle taps core }
 {
     if taps == 1 {
-        return doing(core, all, paddle, places::single(all, paddle)).unwritten();
+        return doing(core, all, paddle, places::action_of(all, paddle, 1)).unwritten();
     }
     if taps == 2 {
         return core.entering(Mode::Normal).unwritten();
@@ -110,7 +110,7 @@ fn doing(core: Core, all: &[u8; 256], paddle: u8, action: Action) -> Core
 fn holding(core: Core, all: &[u8; 256], paddle: u8) -> Core
     ensures { result ≡ holding all.now paddle core }
 {
-    let options = Options::of(places::dimming(all));
+    let options = Options::from(places::dimming(all));
     if options.capable {
         return core.setting(all, paddle, far(paddle), 255);
     }

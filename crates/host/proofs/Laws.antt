@@ -1,19 +1,17 @@
 -- The switch's own promises with the answer in figures, and what the caller's arrays stand for.
 use Rattle.std.specs.Prelude.{if◌then◌else◌}
 use mathlib.Core.List.{List}
-use mathlib.Core.Path.{◌≡◌, sym, ap, ◌∙◌}
+use mathlib.Core.Path.{◌≡◌, ap, ◌∙◌}
 use Prim.Native.Nat.{ℕ}
-use lib.ListN.{length, replicate}
+use lib.ListN.{length}
 use borrow.Author.Tests.{eq-eqb, ne_eqb}
 use Rattle.words.proofs.Laws.{one_outcome as only}
-use Rattle.vault.specs.Job.{Answered, Switch, switch}
+use Rattle.vault.specs.Job.{Answered}
 use Rattle.places.specs.Places.{size}
-use Rattle.state.specs.Keeping.{kept_counters, kept_numbers}
-use Rattle.panel.specs.Panel.{kept_paddles}
 use Rattle.state.specs.Code.{Sized}
 use Rattle.state.proofs.Laws.{colour_back, core_back, counters_same, mode_back, numbers_same, password_back}
 use Rattle.panel.proofs.Laws.{paddles_back, paddles_same}
-use Rattle.switch.specs.Switch.{Plain, Shown, plain}
+use Rattle.switch.specs.Switch.{Plain, Shown}
 use Rattle.switch.specs.Respond.{Leaves, Starts, no_answer, start_answer, whole}
 use Rattle.answers.specs.declared.Answer.{Answer}
 use Rattle.switch.proofs.Laws.{one_leaving}

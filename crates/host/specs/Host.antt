@@ -2,9 +2,10 @@
 use Rattle.std.specs.Prelude.{List, ◌≡◌, ℕ, length}
 use Rattle.units.specs.Units.{step}
 use Rattle.vault.specs.Job.{Switch}
+use Rattle.vault.specs.Vault.{mode_number, mode_of}
+use Rattle.lamp.specs.Lamp.{colour_from, colour_number}
 use Rattle.model.specs.Model.{paddle_count}
 use Rattle.places.specs.Places.{size}
-use Rattle.state.specs.Kinds.{colour_from, colour_number, mode_number, mode_of}
 use Rattle.state.specs.State.{core_of, counter_count, number_count, password_of}
 use Rattle.state.specs.Keeping.{kept_counters, kept_numbers}
 use Rattle.panel.specs.Panel.{byte_count, kept_paddles, paddles_of}

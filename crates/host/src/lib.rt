@@ -11,7 +11,6 @@ ghost use Rattle.host.specs.Host.{in_figures, Speaks, Begins};
 use answers::Answer;
 use model::PADDLES;
 use panel::BYTES;
-use state::kinds::{colour_number, mode_number};
 use state::{COUNTERS, NUMBERS};
 
 // An answer in figures: `count` packets were sent, of so many bytes each.
@@ -126,7 +125,7 @@ fn figures_of(answer: Answer) -> Figures
         number: answer.number,
         level: level.0,
         output: output.0,
-        colour: colour_number(colour),
-        mode: mode_number(mode),
+        colour: u8::from(colour),
+        mode: u8::from(mode),
     }
 }

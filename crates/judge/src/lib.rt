@@ -104,7 +104,7 @@ fn commanded(
     if !verb.suits(message) {
         return Err(Denied::Arguments);
     }
-    let options = Options::of(places::dimming(all));
+    let options = Options::from(places::dimming(all));
     if !permitted(verb, target, mode, source, options.capable) {
         return Err(Denied::Circumstances);
     }

@@ -9,6 +9,7 @@ use borrow.Author.Tests.{lt-ltb, le-ltb, le-leb, lt-leb, eq-eqb, ne_eqb}
 use Rattle.words.proofs.Laws.{both, two_ways}
 use Rattle.timers.specs.Timers.{less, less_by, metronome_by}
 use Rattle.timers.proofs.Laws.{less_none, less_more, turned_none, turned_more}
+use Rattle.units.specs.Units.{opposite}
 use Rattle.units.specs.declared.Step.{Step}
 use Rattle.vault.specs.declared.Mode.{Mode}
 use Rattle.vault.specs.declared.Mode.TheVariants.{Normal, Setup, Factory}
@@ -16,7 +17,7 @@ use Rattle.lamp.specs.declared.Colour.{Colour}
 use Rattle.lamp.specs.declared.Colour.TheVariants.{Red, Green, Orange}
 use Rattle.lamp.specs.declared.Lamp.{Lamp}
 use Rattle.lamp.specs.Lamp.{fresh_lamp, signal_set, entered, next_lamp, by_halves, bit_of, bit_colour, version_colour, diagnostic, diagnosed, normal_colour}
-use Rattle.lamp.specs.Lamp.{mode_colour, colour, inverted, output}
+use Rattle.lamp.specs.Lamp.{mode_colour, colour, output}
 use Rattle.lamp.specs.Promises.{lamp_skip}
 use Rattle.lamp.specs.Code.{lamp_ticks, blink_after, version_after, CaseI}
 
@@ -122,7 +123,7 @@ blink_lasts n hue l =
     (λ (h : 30 ≤ n). simp (le-ltb n 30 h, eq-eqb (30 - n) 0 (omega arith)))
 
 -- The flash shows in the answer of the mode change and in those of the next 119 ticks.
-pub flash_lasts : (n : ℕ) (l : Lamp) (level : Step) → output (lamp_skip n (entered l)) level ≡ (if ltb n 120 then inverted level else level)
+pub flash_lasts : (n : ℕ) (l : Lamp) (level : Step) → output (lamp_skip n (entered l)) level ≡ (if ltb n 120 then opposite level else level)
 unfolding lamp_skip entered output less_by
 flash_lasts n l level =
     two_ways n 120
@@ -153,7 +154,7 @@ entered_alone l = (refl, (refl, refl))
 
 -- The output is never above full where the level is not.
 pub output_within : (l : Lamp) (level : Step) → level.0 ≤ 200 → (output l level).0 ≤ 200
-unfolding output inverted
+unfolding output opposite
 output_within l level h =
     both (λ (s : Step). s.0 ≤ 200) (eqb l.flash 0) h (both (λ (s : Step). s.0 ≤ 200) (eqb level.0 0) (omega arith) (omega arith))
 
@@ -163,6 +164,6 @@ unfolding output
 output_plain l level e = simp e
 
 -- Under the flash a lit load is dark and a dark one lit.
-pub output_flashed : (l : Lamp) (level : Step) → 0 < l.flash → output l level ≡ inverted level
+pub output_flashed : (l : Lamp) (level : Step) → 0 < l.flash → output l level ≡ opposite level
 unfolding output
 output_flashed l level h = simp (ne_eqb l.flash 0 (omega arith))

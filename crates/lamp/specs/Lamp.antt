@@ -1,7 +1,7 @@
 -- The lamp's colours and blinks (01, Lamp, start, factory values, 1 to 4) and the flash of the output (01, Paddles, 10).
 use Rattle.std.specs.Prelude.{Bool, ℕ, ◌/◌, ◌%◌, ◌^◌, ltb, leb, eqb, if◌then◌else◌}
 use Rattle.timers.specs.Timers.{less, metronome}
-use Rattle.units.specs.Units.{full, off}
+use Rattle.units.specs.Units.{opposite}
 use Rattle.units.specs.declared.Step.{Step}
 use Rattle.vault.specs.declared.Mode.{Mode}
 use Rattle.vault.specs.declared.Mode.TheVariants.{Normal, Setup, Factory}
@@ -78,13 +78,25 @@ diagnostic options = eqb (options / 128 % 2) 1
 unfoldable pub diagnosed : Lamp → Colour
 diagnosed l = if eqb l.blink 0 then Orange else l.hue
 
--- 01, Lamp, start, factory values, 1 (level): the colour that two bits name.
-unfoldable pub colour_of_bits : ℕ → Colour
-colour_of_bits code = if eqb code 0 then Black else if eqb code 1 then Red else if eqb code 2 then Green else Orange
+-- A number as a colour: 1 red, 2 green, 3 orange; 0 and any other is black. 01, Lamp, start, factory values, 1 (level): the colour that
+-- two bits name.
+unfoldable pub colour_from : ℕ → Colour
+colour_from number =
+    if eqb number 1 then Red
+    else if eqb number 2 then Green
+    else if eqb number 3 then Orange
+    else Black
+
+-- A colour as a number.
+unfoldable pub colour_number : Colour → ℕ
+colour_number Black = 0
+colour_number Red = 1
+colour_number Green = 2
+colour_number Orange = 3
 
 -- 01, Lamp, start, factory values, 1 (level): the lowest two bits of the options are for off, the next two for on.
 unfoldable pub by_level : ℕ → Step → Colour
-by_level options level = if eqb level.0 0 then colour_of_bits (options % 4) else colour_of_bits (options / 4 % 4)
+by_level options level = if eqb level.0 0 then colour_from (options % 4) else colour_from (options / 4 % 4)
 
 -- 01, Lamp, start, factory values, 1 (diagnostic, level) and 4: what shows in Normal.
 unfoldable pub normal_colour : Lamp → ℕ → Step → Colour
@@ -100,10 +112,6 @@ mode_colour Normal l options level = normal_colour l options level
 unfoldable pub colour : Lamp → Mode → ℕ → ℕ → Step → Colour
 colour l mode digit options level = if ltb 0 l.version then version_colour digit (less l.version) else mode_colour mode l options level
 
--- 01, Paddles, 10: a lit load turned off, a dark one turned full.
-unfoldable pub inverted : Step → Step
-inverted level = if eqb level.0 0 then full else off
-
 -- 01, Paddles, 10: what the output shows of a level, inverted while the flash runs.
 unfoldable pub output : Lamp → Step → Step
-output l level = if eqb l.flash 0 then level else inverted level
+output l level = if eqb l.flash 0 then level else opposite level

@@ -3,8 +3,9 @@
 
 ghost use Rattle.std.specs.Prelude.{◌≡◌};
 ghost use Rattle.lamp.specs.Lamp.{fresh_lamp, signal_set, entered, next_lamp, colour, output};
-ghost use Rattle.lamp.specs.Lamp.{mode_colour, version_colour, bit_of, bit_colour, by_halves, normal_colour, diagnostic, diagnosed, by_level, colour_of_bits, inverted};
+ghost use Rattle.lamp.specs.Lamp.{mode_colour, version_colour, bit_of, bit_colour, by_halves, normal_colour, diagnostic, diagnosed, by_level, colour_from, colour_number};
 
+use timers::{Timer, turn};
 use units::Step;
 use vault::Mode;
 
@@ -19,12 +20,35 @@ const BLINK: u16 = 30;
 
 const FLASH: u16 = 120;
 
-#[derive(Clone, Copy)]
+#[derive(Clone, Copy, Debug, PartialEq, Eq)]
 pub enum Colour {
-    Black,
-    Red,
-    Green,
-    Orange,
+    Black = 0,
+    Red = 1,
+    Green = 2,
+    Orange = 3,
+}
+
+impl From<u8> for Colour {
+    ghost from_gives = { λ number colour. colour ≡ colour_from number };
+
+    #[tactic(auto, unfolding(crate::specs::Lamp::colour_from))]
+    fn from(number: u8) -> Colour {
+        match number {
+            1 => Colour::Red,
+            2 => Colour::Green,
+            3 => Colour::Orange,
+            _ => Colour::Black,
+        }
+    }
+}
+
+impl From<Colour> for u8 {
+    ghost from_gives = { λ colour number. number ≡ colour_number colour };
+
+    #[tactic(auto, unfolding(crate::specs::Lamp::colour_number))]
+    fn from(colour: Colour) -> u8 {
+        colour as u8
+    }
 }
 
 // `version`, `blink`, `flash`: ticks left of the version blinks, of the signal and of the flash. `phase`: the metronome of the
@@ -53,58 +77,65 @@ impl Lamp {
     }
 
     // A packet was sent or received: a signal begins and takes the place of an older one.
+    #[tactic(auto, unfolding(crate::specs::Lamp::signal_set))]
     pub fn blinked(self, hue: Colour) -> Lamp
         ensures { result ≡ signal_set hue self }
     {
         Lamp {
-            version: self.version,
-            phase: self.phase,
             blink: BLINK,
             hue,
-            flash: self.flash,
+            ..self
         }
     }
 
     // The mode changed: its blinks and the flash begin.
-    pub fn entered(mut self) -> Lamp
+    #[tactic(auto, unfolding(crate::specs::Lamp::entered, timers::specs::Timers::less))]
+    pub fn entered(self) -> Lamp
         ensures { result ≡ entered self }
     {
-        self.phase = TURN - 1;
-        self.flash = FLASH;
-        self
+        Lamp {
+            phase: TURN - 1,
+            flash: FLASH,
+            ..self
+        }
     }
 
-    pub fn tick(mut self) -> Lamp
+    #[tactic(auto, unfolding(crate::specs::Lamp::next_lamp))]
+    pub fn tick(self) -> Lamp
         ensures { result ≡ next_lamp self }
     {
-        self.version = timers::run(self.version);
-        self.phase = timers::turn(TURN, self.phase);
-        self.blink = timers::run(self.blink);
-        self.flash = timers::run(self.flash);
-        self
+        Lamp {
+            version: self.version.run(),
+            phase: turn(TURN, self.phase),
+            blink: self.blink.run(),
+            flash: self.flash.run(),
+            ..self
+        }
     }
 
     // `digit`: the low four bits of register 0x0B. `options`: register 0x8B.
+    #[tactic(auto, unfolding(crate::specs::Lamp::colour, timers::specs::Timers::less))]
     pub fn colour(self, mode: Mode, digit: u8, options: u8, level: Step) -> Colour
         ensures { result ≡ colour self mode digit options level }
     {
-        let version = self.version;
-        if 0 < version {
-            return version_colour(digit, version - 1);
+        if 0 < self.version {
+            return version_colour(digit, self.version - 1);
         }
         self.mode_colour(mode, options, level)
     }
 
     // The step that the output shows.
+    #[tactic(auto, unfolding(crate::specs::Lamp::output))]
     pub fn output(self, level: Step) -> Step
         ensures { result ≡ output self level }
     {
         if self.flash == 0 {
             return level;
         }
-        inverted(level)
+        level.opposite()
     }
 
+    #[tactic(auto, unfolding(crate::specs::Lamp::mode_colour))]
     fn mode_colour(self, mode: Mode, options: u8, level: Step) -> Colour
         ensures { result ≡ mode_colour mode self options level }
     {
@@ -115,6 +146,7 @@ impl Lamp {
         }
     }
 
+    #[tactic(auto, unfolding(crate::specs::Lamp::normal_colour))]
     fn normal_colour(self, options: u8, level: Step) -> Colour
         ensures { result ≡ normal_colour self options level }
     {
@@ -125,18 +157,19 @@ impl Lamp {
     }
 
     // A signal that runs, else orange.
+    #[tactic(auto, unfolding(crate::specs::Lamp::diagnosed))]
     fn diagnosed(self) -> Colour
         ensures { result ≡ diagnosed self }
     {
         if self.blink == 0 {
             return Colour::Orange;
         }
-        let hue = self.hue;
-        hue
+        self.hue
     }
 }
 
 // The version blinks with `left` ticks to come after this one, high bit first.
+#[tactic(auto, unfolding(crate::specs::Lamp::version_colour))]
 fn version_colour(digit: u8, left: u16) -> Colour
     ensures { result ≡ version_colour digit left }
 {
@@ -145,6 +178,7 @@ fn version_colour(digit: u8, left: u16) -> Colour
 }
 
 // The version digit has the four bits 0 to 3.
+#[tactic(auto, unfolding(crate::specs::Lamp::bit_of))]
 fn bit(digit: u8, number: u16) -> u8
     ensures { result ≡ bit_of digit number }
 {
@@ -154,6 +188,7 @@ fn bit(digit: u8, number: u16) -> u8
     (digit >> number) & 1
 }
 
+#[tactic(auto, unfolding(crate::specs::Lamp::bit_colour))]
 fn bit_colour(one: u8) -> Colour
     ensures { result ≡ bit_colour one }
 {
@@ -164,6 +199,7 @@ fn bit_colour(one: u8) -> Colour
 }
 
 // The colour and then black, by the ticks that are left of the blink after this one.
+#[tactic(auto, unfolding(crate::specs::Lamp::by_halves))]
 fn blinking(hue: Colour, phase: u16) -> Colour
     ensures { result ≡ by_halves hue phase }
 {
@@ -173,6 +209,7 @@ fn blinking(hue: Colour, phase: u16) -> Colour
     Colour::Black
 }
 
+#[tactic(auto, unfolding(crate::specs::Lamp::diagnostic))]
 fn diagnostic(options: u8) -> bool
     ensures { result ≡ diagnostic options }
 {
@@ -180,31 +217,12 @@ fn diagnostic(options: u8) -> bool
 }
 
 // The lowest two bits are for off, the next two for on.
+#[tactic(auto, unfolding(crate::specs::Lamp::by_level))]
 fn by_level(options: u8, level: Step) -> Colour
     ensures { result ≡ by_level options level }
 {
-    if level.0 == 0 {
-        return colour_of(options & 3);
+    if level == Step::OFF {
+        return Colour::from(options & 3);
     }
-    colour_of((options >> 2) & 3)
-}
-
-fn colour_of(code: u8) -> Colour
-    ensures { result ≡ colour_of_bits code }
-{
-    match code {
-        0 => Colour::Black,
-        1 => Colour::Red,
-        2 => Colour::Green,
-        _ => Colour::Orange,
-    }
-}
-
-fn inverted(level: Step) -> Step
-    ensures { result ≡ inverted level }
-{
-    if level.0 == 0 {
-        return Step::FULL;
-    }
-    Step::OFF
+    Colour::from((options >> 2) & 3)
 }

@@ -13,6 +13,8 @@ use state::parts::{
     save_in,
 };
 use state::{COUNTERS, NUMBERS};
+use timers::Timer;
+use units::Percent;
 use writes::{Write, apply};
 
 pub mod shift;
@@ -22,7 +24,7 @@ pub fn pass(counters: &mut [u16; COUNTERS], numbers: &mut [u8; NUMBERS])
     ensures { CoreKept (passed_core (core_of counters.old numbers.old)) (password_of numbers.old) counters.old numbers.old counters.new numbers.new }
 {
     move_on(counters, numbers);
-    let save = timers::run(save_in(counters));
+    let save = save_in(counters).run();
     let lamp = lamp_of(counters, numbers).tick();
     keep_save(save, counters);
     keep_timers(lamp, counters);
@@ -41,7 +43,7 @@ fn move_on(counters: &mut [u16; COUNTERS], numbers: &mut [u8; NUMBERS])
         keep_dimmer(dimmer, counters, numbers);
         return;
     }
-    keep_left(timers::run(left), counters);
+    keep_left(left.run(), counters);
 }
 
 // The last stage of a tick: the save, where it is due.
@@ -53,5 +55,5 @@ fn save(counters: &mut [u16; COUNTERS], numbers: &[u8; NUMBERS], all: &mut [u8; 
     if left != 0 {
         return;
     }
-    apply(Write::Save(level_in(numbers).percent()), b"", all);
+    apply(Write::Save(Percent::from(level_in(numbers))), b"", all);
 }

@@ -21,6 +21,7 @@ use state::parts::{
     password_of,
 };
 use state::{COUNTERS, NUMBERS, sized};
+use units::Percent;
 use vault::Mode;
 use verdict::seen_by;
 use writes::{Write, apply};
@@ -44,7 +45,7 @@ pub fn obey(
             0
         }
         Order::Read { first, count } => {
-            let percent = level_in(numbers).percent();
+            let percent = Percent::from(level_in(numbers));
             let seen = seen_by(mode_in(numbers), password_of(numbers));
             let reply = Reply::Registers { first, count };
             post::send(all, seen, source, reply, percent, out)
@@ -66,7 +67,7 @@ fn perform(
 {
     match work {
         Work::Report => {
-            let percent = level_in(numbers).percent();
+            let percent = Percent::from(level_in(numbers));
             post::send(all, None, source, Reply::Status, percent, out)
         }
         Work::Close => {

@@ -7,7 +7,7 @@ ghost use Rattle.orders.specs.Orders.{driven, stored};
 use acts::set_by;
 use dimmer::Dimmer;
 use judge::Drive;
-use units::Step;
+use units::{Percent, Step};
 use writes::Write;
 
 // What a drive makes of the dimmer, by what the registers say now.
@@ -33,6 +33,6 @@ pub fn drive(dimmer: Dimmer, all: &[u8; 256], drive: Drive) -> Dimmer
 pub fn stored(level: Step, component: u8) -> Write
     ensures { result ≡ stored level component }
 {
-    let percent = level.percent();
+    let percent = Percent::from(level);
     Write::Preset { component, percent }
 }

@@ -11,6 +11,7 @@ ghost use Rattle.panel.specs.Code.{loud_at, quiet_bytes, left_by, used_up, ran_a
 
 use model::{PADDLES, kind_of, paddle_of};
 use paddle::{Gesture, Paddle};
+use timers::Timer;
 
 // Of a paddle four bytes are kept.
 pub const BYTES: usize = 4 * PADDLES;
@@ -102,7 +103,7 @@ fn run_at(i: usize, paddles: &mut [u8; BYTES])
     let hold = paddles[HOLD + i];
     paddles[HOLD + i] = left(paddles[CONTACTS + i], hold);
     let gap = paddles[GAP + i];
-    paddles[GAP + i] = timers::run_byte(gap);
+    paddles[GAP + i] = gap.run();
 }
 
 // Hold comes nearer only while the paddle is down.
@@ -112,7 +113,7 @@ fn left(contacts: u8, hold: u8) -> u8
     if contacts & 3 == 0 {
         return hold;
     }
-    timers::run_byte(hold)
+    hold.run()
 }
 
 // Any tick, and the gesture of each paddle.

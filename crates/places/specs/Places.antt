@@ -1,6 +1,6 @@
 -- 01, Registers, 1 to 8: where everything stands. `all` is the list of the 256 bytes. A component, entry or paddle number past the
 -- last counts on from the first (decision 52).
-use Rattle.std.specs.Prelude.{Bool, ◌||◌, List, ℕ, ◌+◌, ◌*◌, ◌%◌, eqb, get_or}
+use Rattle.std.specs.Prelude.{Bool, ◌||◌, List, ℕ, ◌+◌, ◌*◌, ◌%◌, eqb, get_or, if◌then◌else◌}
 use Rattle.model.specs.Model.{transmit_place, action_place}
 use Rattle.places.specs.declared.Component.{Component}
 use Rattle.places.specs.declared.Transmit.{Transmit}
@@ -73,13 +73,11 @@ transmit_in all paddle =
       release = get_or all (transmit_place paddle + 4) 0;
     }
 
--- 01, Registers, 4: the action of a paddle's single tap, the first of its two.
-unfoldable pub single_in : List ℕ → ℕ → Action
-single_in all paddle = record { level = get_or all (action_place paddle) 0; rate = get_or all (action_place paddle + 1) 0 }
-
--- 01, Registers, 4: the action of a paddle's double tap, the second of its two.
-unfoldable pub double_in : List ℕ → ℕ → Action
-double_in all paddle = record { level = get_or all (action_place paddle + 2) 0; rate = get_or all (action_place paddle + 3) 0 }
+-- 01, Registers, 4: the action of a paddle's single tap, the first of its two, or of its double tap, the second.
+unfoldable pub action_in : List ℕ → ℕ → ℕ → Action
+action_in all paddle taps =
+    let place = if eqb taps 1 then action_place paddle else action_place paddle + 2 in
+    record { level = get_or all place 0; rate = get_or all (place + 1) 0 }
 
 -- 01, Registers, 5: the lamp's options.
 abbrev pub light_in : List ℕ → ℕ

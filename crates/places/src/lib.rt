@@ -3,7 +3,7 @@
 
 ghost use Rattle.std.specs.Prelude.{◌≡◌};
 ghost use Rattle.places.specs.Places.{network_in, unit_in, digit_in, link_place, level_place, component_in, transmit_in};
-ghost use Rattle.places.specs.Places.{single_in, double_in, light_in, dimming_in, entry_place, entry_in, saved_in, counter_place};
+ghost use Rattle.places.specs.Places.{action_in, light_in, dimming_in, entry_place, entry_in, saved_in, counter_place};
 
 pub const SIZE: usize = 256;
 
@@ -64,10 +64,11 @@ pub struct Entry {
 // Entries into Setup, and restarts.
 #[derive(Clone, Copy)]
 pub enum Counter {
-    Setups,
-    Restarts,
+    Setups = 0xFA,
+    Restarts = 0xFC,
 }
 
+// Stays as it is: each named place is read in one line, and one function for them all would need the names again as its argument.
 pub fn network(all: &[u8; 256]) -> u8
     ensures { result ≡ network_in all.now }
 {
@@ -87,6 +88,7 @@ pub fn digit(all: &[u8; 256]) -> u8
 }
 
 // The i-th receive component; past the sixteenth they count on from the first.
+#[tactic(auto, unfolding(crate::specs::Places::component_in))]
 pub fn component_at(all: &[u8; 256], i: u8) -> Component
     ensures { result ≡ component_in all.now i }
 {
@@ -110,6 +112,7 @@ pub fn level_place(i: u8) -> usize
     link_place(i) + 1
 }
 
+#[tactic(auto, unfolding(crate::specs::Places::transmit_in))]
 pub fn transmit_of(all: &[u8; 256], paddle: u8) -> Transmit
     ensures { result ≡ transmit_in all.now paddle }
 {
@@ -123,23 +126,16 @@ pub fn transmit_of(all: &[u8; 256], paddle: u8) -> Transmit
     }
 }
 
-pub fn single(all: &[u8; 256], paddle: u8) -> Action
-    ensures { result ≡ single_in all.now paddle }
+// A paddle's first line of the action table is for a single tap, its second for a double one.
+#[tactic(auto, unfolding(crate::specs::Places::action_in))]
+pub fn action_of(all: &[u8; 256], paddle: u8, taps: u8) -> Action
+    ensures { result ≡ action_in all.now paddle taps }
 {
-    let place = model::action_place(paddle);
+    let first = model::action_place(paddle);
+    let place = if taps == 1 { first } else { first + 2 };
     Action {
         level: all[place],
         rate: all[place + 1],
-    }
-}
-
-pub fn double(all: &[u8; 256], paddle: u8) -> Action
-    ensures { result ≡ double_in all.now paddle }
-{
-    let place = model::action_place(paddle);
-    Action {
-        level: all[place + 2],
-        rate: all[place + 3],
     }
 }
 
@@ -156,6 +152,7 @@ pub fn dimming(all: &[u8; 256]) -> u8
 }
 
 // The i-th entry of the command table; past the fourteenth they count on from the first.
+#[tactic(auto, unfolding(crate::specs::Places::entry_in))]
 pub fn entry_at(all: &[u8; 256], i: u8) -> Entry
     ensures { result ≡ entry_in all.now i }
 {
@@ -180,12 +177,10 @@ pub fn saved(all: &[u8; 256]) -> u8
 }
 
 impl Counter {
+    #[tactic(auto, unfolding(crate::specs::Places::counter_place))]
     pub fn place(self) -> usize
         ensures { result ≡ counter_place self }
     {
-        match self {
-            Counter::Setups => 0xFA,
-            Counter::Restarts => 0xFC,
-        }
+        self as usize
     }
 }

@@ -34,7 +34,7 @@ use Rattle.lamp.specs.declared.Lamp.{Lamp}
 use Rattle.lamp.proofs.Laws.{output_plain, skip_none, version_shows}
 use Rattle.lamp.specs.Code.{blink_after, version_after}
 use Rattle.model.specs.Model.{drives, kind_of, paddle_of, room, paddle_count, contact_count}
-use Rattle.places.specs.Places.{counter_place, digit_in, dimming_in, light_in, network_in, single_in, size}
+use Rattle.places.specs.Places.{action_in, counter_place, digit_in, dimming_in, light_in, network_in, size}
 use Rattle.registers.specs.Registers.{apart, found, seek, valid}
 use Rattle.writes.specs.Writes.{applied, one_more, stored}
 use Rattle.registers.specs.declared.Found.TheVariants.{At}
@@ -324,7 +324,7 @@ unfolding started_from woken apart started start_level bench_image zeros applied
 bench_there = record { network = refl; unit = refl; level = refl; mode = refl; capable = refl }
 
 bench_darkens : (dimmer_by (Taps 1) 0 (started_from bench_image)).level ≡ off
-unfolding started_from woken apart started start_level bench_image zeros applied counter_place one_more stored options_of step_of fresh_dimmer acted acted_in acted_in_normal taps_in_normal unwritten by_action setting loaded drives set_by single_in set_to allowed wanted rate_of heading_to ticks_per_step paddle_of
+unfolding started_from woken apart started start_level bench_image zeros applied counter_place one_more stored options_of step_of fresh_dimmer acted acted_in acted_in_normal taps_in_normal unwritten by_action setting loaded drives set_by action_in set_to allowed wanted rate_of heading_to ticks_per_step paddle_of
 bench_darkens = refl
 
 bench_linked : found (started_from bench_image).plain.registers 3 ≡ At 0

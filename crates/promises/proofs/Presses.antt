@@ -38,7 +38,7 @@ use Rattle.lamp.specs.Lamp.{signal_set}
 use Rattle.lamp.specs.declared.Lamp.{Lamp}
 use Rattle.lamp.proofs.Laws.{output_plain}
 use Rattle.model.specs.Model.{action_place, drives, transmit_place, kind_of, paddle_of, room, contact_count}
-use Rattle.places.specs.Places.{dimming_in, double_in, entry_in, entry_place, single_in, transmit_in}
+use Rattle.places.specs.Places.{action_in, dimming_in, entry_in, entry_place, transmit_in}
 use Rattle.writes.specs.Writes.{applied}
 use Rattle.writes.specs.declared.Write.{Write}
 use Rattle.writes.specs.declared.Write.TheVariants.{Factory as FactoryValues, Nothing as Unwritten}
@@ -65,13 +65,13 @@ use Rattle.promises.proofs.Ticks.{Agrees, Quiet, Still, all_shift, left_quiet, n
 -- ---- registers that differ in the saved level alone
 
 module _ (all now : List ℕ) (same : Agrees all now) (i : ℕ) where
-  same_single : single_in now i ≡ single_in all i
-  unfolding single_in
+  same_single : action_in now i 1 ≡ action_in all i 1
+  unfolding action_in
   same_single = rw (same (action_place i) (λ e. omega arith), same (action_place i + 1) (λ e. omega arith))
 
-  same_double : double_in now i ≡ double_in all i
-  unfolding double_in
-  same_double = rw (same (action_place i + 2) (λ e. omega arith), same (action_place i + 3) (λ e. omega arith))
+  same_double : action_in now i 2 ≡ action_in all i 2
+  unfolding action_in
+  same_double = rw (same (action_place i + 2) (λ e. omega arith), same (action_place i + 2 + 1) (λ e. omega arith))
 
   same_transmit : transmit_in now i ≡ transmit_in all i
   unfolding transmit_in
@@ -158,11 +158,11 @@ module _ (all now : List ℕ) (same : Agrees all now) (i : ℕ) (c d : Core) (al
     where
       by : Bool → Bool → Bool → List ℕ → Core → Effect
       by one two five r e =
-          if one then unwritten (by_action r i (single_in all i) e) else if two then unwritten (by_action r i (double_in all i) e) else if five then opened e else unwritten e
+          if one then unwritten (by_action r i (action_in all i 1) e) else if two then unwritten (by_action r i (action_in all i 2) e) else if five then opened e else unwritten e
 
       go : (one two five : Bool) → (by one two five now d).core.dimmer ≡ (by one two five all c).core.dimmer
-      go true two five = same_setting (single_in all i).level (single_in all i).rate
-      go false true five = same_setting (double_in all i).level (double_in all i).rate
+      go true two five = same_setting (action_in all i 1).level (action_in all i 1).rate
+      go false true five = same_setting (action_in all i 2).level (action_in all i 2).rate
       go false false true = alike
       go false false false = alike
 
@@ -183,10 +183,10 @@ module _ (all now : List ℕ) (same : Agrees all now) (i : ℕ) (c d : Core) (al
   same_taps_in_factory n = rw (same_single all now same i) (go (eqb n 1) (eqb n 2))
     where
       by : Bool → Bool → List ℕ → Core → Effect
-      by one two r e = if one then unwritten (by_action r i (single_in all i) e) else if two then unwritten (entering Normal e) else unwritten e
+      by one two r e = if one then unwritten (by_action r i (action_in all i 1) e) else if two then unwritten (entering Normal e) else unwritten e
 
       go : (one two : Bool) → (by one two now d).core.dimmer ≡ (by one two all c).core.dimmer
-      go true two = same_setting (single_in all i).level (single_in all i).rate
+      go true two = same_setting (action_in all i 1).level (action_in all i 1).rate
       go false true = alike
       go false false = alike
 

@@ -8,12 +8,15 @@ use native.Mathlib.Omega.{arith}
 use lib.Dec.{eqb, ltb}
 use lib.ListN.{length, get_or, set, drop, length-set}
 use lib.Seq.{set-get_or}
+use denote.Enum.Bare.{sameb, same_true, same_false}
 use borrow.Author.Tests.{lt-ltb, eq-eqb, ne_eqb, eqb-true}
 use Rattle.words.specs.Words.{kept_at}
 use Rattle.words.proofs.Laws.{cases, kept_back, kept_same, other_place}
 use Rattle.timers.specs.Timers.{less, metronome}
 use Rattle.units.specs.Units.{step}
 use Rattle.units.specs.declared.Step.{Step}
+use Rattle.vault.specs.Vault.{mode_of, mode_number}
+use Rattle.vault.specs.contracts.Mode.{the_type as the_mode}
 use Rattle.vault.specs.declared.Mode.{Mode}
 use Rattle.vault.specs.declared.Mode.TheVariants.{Normal, Setup, Factory}
 use Rattle.vault.specs.declared.Password.{Password}
@@ -21,17 +24,18 @@ use Rattle.dimmer.specs.Dimmer.{dimmer, ticked, ticked_from, faded, flickered}
 use Rattle.dimmer.specs.declared.Dimmer.{Dimmer}
 use Rattle.dimmer.specs.declared.Motion.{Motion}
 use Rattle.dimmer.specs.declared.Motion.TheVariants.{Idle, Fading, Blinking}
-use Rattle.lamp.specs.Lamp.{lamp}
+use Rattle.lamp.specs.Lamp.{colour_from, colour_number, lamp}
+use Rattle.lamp.specs.contracts.Colour.{the_type as the_colour}
 use Rattle.lamp.specs.declared.Colour.{Colour}
 use Rattle.lamp.specs.declared.Colour.TheVariants.{Black, Red, Green, Orange}
 use Rattle.lamp.specs.declared.Lamp.{Lamp}
 use Rattle.acts.specs.Core.{core}
 use Rattle.acts.specs.declared.Core.{Core}
-use Rattle.state.specs.Kinds.{mode_of, mode_number, colour_from, colour_number, motion_of, kind_number}
-use Rattle.state.specs.State.{counter_count, number_count, kind_index, last_index, left_index, period_index, target_index}
+use Rattle.state.specs.Kinds.{motion_of, kind_number}
+use Rattle.state.specs.State.{counter_count, number_count, kind_index, hue_index, last_index, left_index, mode_index, period_index, target_index}
 use Rattle.state.specs.State.{password_of, mode_in, level_in, dimmer_of, lamp_of, save_in, core_of}
 use Rattle.state.specs.Keeping.{kept_password, kept_mode, kept_hue, kept_kind, kept_target, kept_levels, kept_numbers, kept_course, kept_save, kept_timers, kept_counters}
-use Rattle.state.specs.Code.{Sized, idle_in, left_in, kept_left, DimmerKept, LampKept, CoreKept}
+use Rattle.state.specs.Code.{Sized, idle_in, left_in, kept_left}
 
 -- At places that are known a test says that they are others.
 elsewhere : (l : List ℕ) (i v j : ℕ) → eqb j i ≡ false → get_or (set l i v) j 0 ≡ get_or l j 0
@@ -379,6 +383,35 @@ colour_back Red = refl
 colour_back Green = refl
 colour_back Orange = refl
 
+-- What stands for another is written anew, and what stands for the same is left,
+anew : (X : Type 0) (read : ℕ → X) (tell : X → ℕ) → ((x : X) → read (tell x) ≡ x)
+    → (x : X) (place : ℕ) (l : List ℕ) → (read (get_or l place 0) ≡ x → ⊥) → set l place (tell x) ≡ kept_at (tell (read (get_or l place 0))) (tell x) place l
+unfolding kept_at
+anew X read tell law x place l other =
+    rw (ne_eqb (tell (read (get_or l place 0))) (tell x) (λ e. other (sym (law (read (get_or l place 0))) ∙ (ap read e ∙ law x))))
+
+stays : (X : Type 0) (read : ℕ → X) (tell : X → ℕ) (x : X) (place : ℕ) (l : List ℕ)
+    → read (get_or l place 0) ≡ x → l ≡ kept_at (tell (read (get_or l place 0))) (tell x) place l
+unfolding kept_at
+stays X read tell x place l same = rw (eq-eqb _ _ (ap tell same)) (sym (set-get_or l place 0))
+
+-- of modes and of colours, as they are compared,
+pub mode_anew : (m : Mode) (n : List ℕ) → sameb the_mode (mode_of (get_or n mode_index 0)) m ≡ false → set n mode_index (mode_number m) ≡ kept_mode m n
+unfolding kept_mode
+mode_anew m n other = anew Mode mode_of mode_number mode_back m mode_index n (same_false the_mode _ _ other)
+
+pub mode_stays : (m : Mode) (n : List ℕ) → sameb the_mode (mode_of (get_or n mode_index 0)) m ≡ true → n ≡ kept_mode m n
+unfolding kept_mode
+mode_stays m n same = stays Mode mode_of mode_number m mode_index n (same_true the_mode tt _ _ same)
+
+pub hue_anew : (hue : Colour) (n : List ℕ) → sameb the_colour (colour_from (get_or n hue_index 0)) hue ≡ false → set n hue_index (colour_number hue) ≡ kept_hue hue n
+unfolding kept_hue
+hue_anew hue n other = anew Colour colour_from colour_number colour_back hue hue_index n (same_false the_colour _ _ other)
+
+pub hue_stays : (hue : Colour) (n : List ℕ) → sameb the_colour (colour_from (get_or n hue_index 0)) hue ≡ true → n ≡ kept_hue hue n
+unfolding kept_hue
+hue_stays hue n same = stays Colour colour_from colour_number hue hue_index n (same_true the_colour tt _ _ same)
+
 mode_kept : (mode : Mode) (old : ℕ) → mode_of (if eqb (mode_number (mode_of old)) (mode_number mode) then old else mode_number mode) ≡ mode
 mode_kept = kept_back Mode mode_of mode_number mode_back
 
@@ -456,19 +489,6 @@ timers_back l c n s same =
 pub sized_mode : (m : Mode) (c n : List ℕ) → Sized c n → Sized c (kept_mode m n)
 unfolding kept_mode kept_at
 sized_mode m c n s = record { counted = s.counted; numbered = simp length-set s.numbered }
-
--- The core kept part by part.
-pub core_kept :
-    (k : Core) (w : Password) (c n n₁ n₂ c₁ n₃ c₂ c₃ n₄ : List ℕ)
-    → n₁ ≡ kept_password w n
-    → n₂ ≡ kept_mode k.mode n₁
-    → DimmerKept k.dimmer c n₂ c₁ n₃
-    → c₂ ≡ kept_save k.save c₁
-    → LampKept k.lamp c₂ n₃ c₃ n₄
-    → CoreKept k w c n c₃ n₄
-unfolding kept_counters kept_numbers
-core_kept k w c n n₁ n₂ c₁ n₃ c₂ c₃ n₄ password mode dimmer save lamp =
-    record { counted = rw (lamp.counted, save, dimmer.counted); numbered = rw (lamp.numbered, dimmer.numbered, mode, password) }
 
 -- Password and mode kept after the dimmer are kept as before it; the save kept after the lamp, too.
 spread_order :

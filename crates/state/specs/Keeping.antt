@@ -2,15 +2,17 @@
 -- it has is written.
 use Rattle.std.specs.Prelude.{List, ℕ, get_or, set}
 use Rattle.words.specs.Words.{kept_at}
+use Rattle.vault.specs.Vault.{mode_of, mode_number}
 use Rattle.vault.specs.declared.Mode.{Mode}
 use Rattle.vault.specs.declared.Password.{Password}
 use Rattle.dimmer.specs.declared.Dimmer.{Dimmer}
 use Rattle.dimmer.specs.declared.Motion.{Motion}
 use Rattle.dimmer.specs.declared.Motion.TheVariants.{Idle, Fading, Blinking}
+use Rattle.lamp.specs.Lamp.{colour_from, colour_number}
 use Rattle.lamp.specs.declared.Colour.{Colour}
 use Rattle.lamp.specs.declared.Lamp.{Lamp}
 use Rattle.acts.specs.declared.Core.{Core}
-use Rattle.state.specs.Kinds.{mode_of, mode_number, colour_from, colour_number, motion_of, kind_number}
+use Rattle.state.specs.Kinds.{motion_of, kind_number}
 use Rattle.state.specs.State.{version_index, phase_index, blink_index, flash_index, save_index, left_index, period_index}
 use Rattle.state.specs.State.{level_index, kind_index, mode_index, hue_index, last_index, target_index, first_index, second_index}
 

@@ -2,16 +2,16 @@
 use Rattle.std.specs.Prelude.{List, ℕ, get_or}
 use Rattle.units.specs.Units.{step}
 use Rattle.units.specs.declared.Step.{Step}
-use Rattle.vault.specs.Vault.{password}
+use Rattle.vault.specs.Vault.{mode_of, password}
 use Rattle.vault.specs.declared.Mode.{Mode}
 use Rattle.vault.specs.declared.Password.{Password}
 use Rattle.dimmer.specs.Dimmer.{dimmer}
 use Rattle.dimmer.specs.declared.Dimmer.{Dimmer}
-use Rattle.lamp.specs.Lamp.{lamp}
+use Rattle.lamp.specs.Lamp.{colour_from, lamp}
 use Rattle.lamp.specs.declared.Lamp.{Lamp}
 use Rattle.acts.specs.Core.{core}
 use Rattle.acts.specs.declared.Core.{Core}
-use Rattle.state.specs.Kinds.{mode_of, colour_from, motion_of}
+use Rattle.state.specs.Kinds.{motion_of}
 
 -- How many counters there are.
 abbrev pub counter_count : ℕ

@@ -1,12 +1,14 @@
 // The core of a switch and its password in the lent counters and numbers. A number that still stands for the same is left as it
 // is, and of a motion only what it has is written.
-ghost use Rattle.std.specs.Prelude.{◌≡◌, ◌<◌};
-ghost use Rattle.state.specs.State.{number_count, mode_in, level_in, save_in, password_of, dimmer_of, lamp_of, core_of};
-ghost use Rattle.words.specs.Words.{kept_at};
+//
+// Stays as it is: counters and numbers are two arrays, since the C interface lends them so, and a signature's `&` or `&mut` says which of
+// them an event can change.
+ghost use Rattle.std.specs.Prelude.{◌≡◌};
+ghost use Rattle.state.specs.State.{mode_in, level_in, save_in, password_of, dimmer_of, lamp_of, core_of};
 ghost use Rattle.state.specs.Keeping.{kept_mode, kept_hue, kept_kind, kept_target, kept_levels, kept_password, kept_numbers, kept_course, kept_save, kept_timers, kept_counters};
 ghost use Rattle.state.specs.Code.{idle_in, left_in, kept_left, LampKept, DimmerKept, CoreKept};
 
-use crate::kinds::{colour_number, colour_of, kind_number, mode_number, mode_of, motion_of};
+use crate::kinds::{kind_number, motion_of};
 use crate::{COUNTERS, NUMBERS};
 use acts::Core;
 use dimmer::{Dimmer, Motion};
@@ -46,23 +48,26 @@ const FIRST: usize = 6;
 
 const SECOND: usize = 7;
 
+#[tactic(auto, unfolding(crate::specs::State::core_of))]
 pub fn core_of(counters: &[u16; COUNTERS], numbers: &[u8; NUMBERS]) -> Core
     ensures { result ≡ core_of counters.now numbers.now }
 {
     Core {
-        mode: mode_of(numbers[MODE]),
+        mode: mode_in(numbers),
         dimmer: dimmer_of(counters, numbers),
         lamp: lamp_of(counters, numbers),
-        save: counters[SAVE],
+        save: save_in(counters),
     }
 }
 
+#[tactic(auto, unfolding(crate::specs::State::mode_in))]
 pub fn mode_in(numbers: &[u8; NUMBERS]) -> Mode
     ensures { result ≡ mode_in numbers.now }
 {
-    mode_of(numbers[MODE])
+    Mode::from(numbers[MODE])
 }
 
+#[tactic(auto, unfolding(crate::specs::State::level_in))]
 pub fn level_in(numbers: &[u8; NUMBERS]) -> Step
     ensures { result ≡ level_in numbers.now }
 {
@@ -70,6 +75,7 @@ pub fn level_in(numbers: &[u8; NUMBERS]) -> Step
 }
 
 // The ticks left before the save.
+#[tactic(auto, unfolding(crate::specs::State::save_in))]
 pub fn save_in(counters: &[u16; COUNTERS]) -> u16
     ensures { result ≡ save_in counters.now }
 {
@@ -77,6 +83,7 @@ pub fn save_in(counters: &[u16; COUNTERS]) -> u16
 }
 
 // What a motion has left to its next step or flip.
+#[tactic(auto, unfolding(crate::specs::Code::left_in))]
 pub fn left_in(counters: &[u16; COUNTERS]) -> u16
     ensures { result ≡ left_in counters.now }
 {
@@ -84,6 +91,7 @@ pub fn left_in(counters: &[u16; COUNTERS]) -> u16
 }
 
 // Whether nothing moves the level.
+#[tactic(auto, unfolding(crate::specs::Code::idle_in))]
 pub fn idle(numbers: &[u8; NUMBERS]) -> bool
     ensures { result ≡ idle_in numbers.now }
 {
@@ -91,17 +99,19 @@ pub fn idle(numbers: &[u8; NUMBERS]) -> bool
     kind == 0 || 2 < kind
 }
 
+#[tactic(auto, unfolding(crate::specs::State::password_of))]
 pub fn password_of(numbers: &[u8; NUMBERS]) -> Password
     ensures { result ≡ password_of numbers.now }
 {
     Password(numbers[FIRST], numbers[SECOND])
 }
 
+#[tactic(auto, unfolding(crate::specs::State::dimmer_of))]
 pub fn dimmer_of(counters: &[u16; COUNTERS], numbers: &[u8; NUMBERS]) -> Dimmer
     ensures { result ≡ dimmer_of counters.now numbers.now }
 {
     Dimmer {
-        level: Step(numbers[LEVEL]),
+        level: level_in(numbers),
         last: Step(numbers[LAST]),
         motion: motion_of(
             numbers[KIND],
@@ -112,6 +122,7 @@ pub fn dimmer_of(counters: &[u16; COUNTERS], numbers: &[u8; NUMBERS]) -> Dimmer
     }
 }
 
+#[tactic(auto, unfolding(crate::specs::State::lamp_of))]
 pub fn lamp_of(counters: &[u16; COUNTERS], numbers: &[u8; NUMBERS]) -> Lamp
     ensures { result ≡ lamp_of counters.now numbers.now }
 {
@@ -119,12 +130,13 @@ pub fn lamp_of(counters: &[u16; COUNTERS], numbers: &[u8; NUMBERS]) -> Lamp
         version: counters[VERSION],
         phase: counters[PHASE],
         blink: counters[BLINK],
-        hue: colour_of(numbers[HUE]),
+        hue: Colour::from(numbers[HUE]),
         flash: counters[FLASH],
     }
 }
 
 // All of it, the password too.
+#[tactic(auto, unfolding(crate::specs::Keeping::kept_counters, crate::specs::Keeping::kept_numbers))]
 pub fn keep(
     core: Core,
     password: Password,
@@ -133,14 +145,14 @@ pub fn keep(
 )
     ensures { CoreKept core password counters.old numbers.old counters.new numbers.new }
 {
-    let mode = core.mode;
     keep_password(password, numbers);
-    keep_mode(mode, numbers);
+    keep_mode(core.mode, numbers);
     keep_dimmer(core.dimmer, counters, numbers);
     keep_save(core.save, counters);
     keep_lamp(core.lamp, counters, numbers);
 }
 
+#[tactic(auto, unfolding(crate::specs::Keeping::kept_password))]
 pub fn keep_password(password: Password, numbers: &mut [u8; NUMBERS])
     ensures { numbers.new ≡ kept_password password numbers.old }
 {
@@ -148,31 +160,29 @@ pub fn keep_password(password: Password, numbers: &mut [u8; NUMBERS])
     numbers[SECOND] = password.1;
 }
 
+#[tactic(auto, using(crate::proofs::Laws::mode_anew, crate::proofs::Laws::mode_stays))]
 pub fn keep_mode(mode: Mode, numbers: &mut [u8; NUMBERS])
     ensures { numbers.new ≡ kept_mode mode numbers.old }
 {
-    let plain = mode_number(mode_of(numbers[MODE]));
-    keep_at(plain, mode_number(mode), MODE, numbers);
+    if Mode::from(numbers[MODE]) != mode {
+        numbers[MODE] = u8::from(mode);
+    }
 }
 
 pub fn keep_dimmer(dimmer: Dimmer, counters: &mut [u16; COUNTERS], numbers: &mut [u8; NUMBERS])
     ensures { DimmerKept dimmer counters.old numbers.old counters.new numbers.new }
 {
-    let motion = dimmer.motion;
-    keep_course(motion, counters);
+    keep_course(dimmer.motion, counters);
     keep_levels(dimmer, numbers);
 }
 
+#[tactic(auto, unfolding(crate::specs::Keeping::kept_course))]
 fn keep_course(motion: Motion, counters: &mut [u16; COUNTERS])
     ensures { counters.new ≡ kept_course motion counters.old }
 {
     match motion {
         Motion::Idle => {}
-        Motion::Fading { period, left, .. } => {
-            counters[PERIOD] = period;
-            counters[LEFT] = left;
-        }
-        Motion::Blinking { period, left } => {
+        Motion::Fading { period, left, .. } | Motion::Blinking { period, left } => {
             counters[PERIOD] = period;
             counters[LEFT] = left;
         }
@@ -180,43 +190,43 @@ fn keep_course(motion: Motion, counters: &mut [u16; COUNTERS])
 }
 
 // All that a tick between two beats of a motion changes.
+#[tactic(auto, unfolding(crate::specs::Code::kept_left))]
 pub fn keep_left(left: u16, counters: &mut [u16; COUNTERS])
     ensures { counters.new ≡ kept_left left counters.old }
 {
     counters[LEFT] = left;
 }
 
+#[tactic(auto, unfolding(crate::specs::Keeping::kept_levels))]
 fn keep_levels(dimmer: Dimmer, numbers: &mut [u8; NUMBERS])
     ensures { numbers.new ≡ kept_levels dimmer numbers.old }
 {
-    let motion = dimmer.motion;
-    let level = dimmer.level;
-    let last = dimmer.last;
-    numbers[LAST] = last.0;
-    keep_target(motion, numbers);
-    numbers[LEVEL] = level.0;
-    keep_kind(motion, numbers);
+    numbers[LAST] = dimmer.last.0;
+    keep_target(dimmer.motion, numbers);
+    numbers[LEVEL] = dimmer.level.0;
+    keep_kind(dimmer.motion, numbers);
 }
 
+#[tactic(auto, unfolding(crate::specs::Keeping::kept_target))]
 fn keep_target(motion: Motion, numbers: &mut [u8; NUMBERS])
     ensures { numbers.new ≡ kept_target motion numbers.old }
 {
-    match motion {
-        Motion::Idle => {}
-        Motion::Fading { target, .. } => {
-            numbers[TARGET] = target.0;
-        }
-        Motion::Blinking { .. } => {}
+    if let Motion::Fading { target, .. } = motion {
+        numbers[TARGET] = target.0;
     }
 }
 
+#[tactic(auto, using(words::proofs::Laws::kept_same), unfolding(crate::specs::Keeping::kept_kind, words::specs::Words::kept_at))]
 fn keep_kind(motion: Motion, numbers: &mut [u8; NUMBERS])
     ensures { numbers.new ≡ kept_kind motion numbers.old }
 {
-    let plain = kind_number(motion_of(numbers[KIND], 0, 0, 0));
-    keep_at(plain, kind_number(motion), KIND, numbers);
+    let kind = kind_number(motion);
+    if kind_number(motion_of(numbers[KIND], 0, 0, 0)) != kind {
+        numbers[KIND] = kind;
+    }
 }
 
+#[tactic(auto, unfolding(crate::specs::Keeping::kept_save))]
 pub fn keep_save(save: u16, counters: &mut [u16; COUNTERS])
     ensures { counters.new ≡ kept_save save counters.old }
 {
@@ -226,11 +236,11 @@ pub fn keep_save(save: u16, counters: &mut [u16; COUNTERS])
 pub fn keep_lamp(lamp: Lamp, counters: &mut [u16; COUNTERS], numbers: &mut [u8; NUMBERS])
     ensures { LampKept lamp counters.old numbers.old counters.new numbers.new }
 {
-    let hue = lamp.hue;
     keep_timers(lamp, counters);
-    keep_hue(hue, numbers);
+    keep_hue(lamp.hue, numbers);
 }
 
+#[tactic(auto, unfolding(crate::specs::Keeping::kept_timers))]
 pub fn keep_timers(lamp: Lamp, counters: &mut [u16; COUNTERS])
     ensures { counters.new ≡ kept_timers lamp counters.old }
 {
@@ -240,19 +250,11 @@ pub fn keep_timers(lamp: Lamp, counters: &mut [u16; COUNTERS])
     counters[FLASH] = lamp.flash;
 }
 
+#[tactic(auto, using(crate::proofs::Laws::hue_anew, crate::proofs::Laws::hue_stays))]
 fn keep_hue(hue: Colour, numbers: &mut [u8; NUMBERS])
     ensures { numbers.new ≡ kept_hue hue numbers.old }
 {
-    let plain = colour_number(colour_of(numbers[HUE]));
-    keep_at(plain, colour_number(hue), HUE, numbers);
-}
-
-// `plain`: the plain number of what stands there.
-fn keep_at(plain: u8, new: u8, place: usize, numbers: &mut [u8; NUMBERS])
-    requires { place < number_count }
-    ensures { numbers.new ≡ kept_at plain new place numbers.old }
-{
-    if plain != new {
-        numbers[place] = new;
+    if Colour::from(numbers[HUE]) != hue {
+        numbers[HUE] = u8::from(hue);
     }
 }

@@ -1,28 +1,33 @@
 // The two kinds of tick counter that a switch has. Both count down and know no date: a timer stands still at 0, and a
 // metronome beats at the tick that finds it at 0 and starts over.
-#![tactic(auto)]
+#![tactic(auto, unfolding(crate::specs::Timers::less, crate::specs::Timers::metronome))]
 
-ghost use Rattle.std.specs.Prelude.{◌≡◌};
+ghost use Rattle.std.specs.Prelude.{◌≡◌, ℕ};
 ghost use Rattle.timers.specs.Timers.{less, metronome};
 
-// A timer one tick later.
-pub fn run(left: u16) -> u16
-    ensures { result ≡ less left }
-{
-    if left == 0 {
-        return 0;
-    }
-    left - 1
+// A number of ticks left that a timer stands on: a word, or a byte as a paddle's timers are.
+pub trait Timer: Copy {
+    ghost left: { Self → ℕ };
+
+    // A timer one tick later.
+    fn run(self) -> Self
+        ensures { left result ≡ less (left self) };
 }
 
-// The same in a byte, as a paddle's timers are.
-pub fn run_byte(left: u8) -> u8
-    ensures { result ≡ less left }
-{
-    if left == 0 {
-        return 0;
+impl Timer for u16 {
+    ghost left = { λ n. n };
+
+    fn run(self) -> u16 {
+        self.saturating_sub(1)
     }
-    left - 1
+}
+
+impl Timer for u8 {
+    ghost left = { λ n. n };
+
+    fn run(self) -> u8 {
+        self.saturating_sub(1)
+    }
 }
 
 // A metronome one tick later.
@@ -30,7 +35,7 @@ pub fn turn(period: u16, left: u16) -> u16
     ensures { result ≡ metronome period left }
 {
     if left == 0 {
-        return run(period);
+        return period.run();
     }
-    run(left)
+    left.run()
 }

@@ -12,6 +12,7 @@ use model::PADDLES;
 use outbox::Outbox;
 use paddle::Gesture;
 use post::Note;
+use units::Percent;
 use vault::Password;
 
 // What a gesture leaves: the core and the password after it, and the note of what it sends.
@@ -87,7 +88,7 @@ fn turned(
     let write = effect.write;
     writes::apply(write, b"", all);
     let dimmer = next.dimmer;
-    let percent = dimmer.level.percent();
+    let percent = Percent::from(dimmer.level);
     After {
         core: next,
         password: writes::password(write, b"", password),

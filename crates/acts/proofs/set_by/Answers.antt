@@ -4,4 +4,4 @@ use Rattle.acts.proofs.set_by.Goals as goal
 
 pub returns : goal.returns
 unfolding set_by
-returns c = search (tests, c.set.ensures, c.of-options.ensures, c.dimming.ensures)
+returns c = search (tests, c.set.ensures, c.from-options.ensures, c.dimming.ensures)

@@ -8,4 +8,4 @@ returns-then-saved-gt100 c = search tests
 
 pub returns : goal.returns
 unfolding start_level
-returns c = search (tests, c.step.ensures)
+returns c = search (tests, c.from.ensures)

@@ -4,7 +4,7 @@ use Rattle.gestures.proofs.taps_in_factory.Goals as goal
 
 pub returns-then-taps-eq1 : goal.returns-then-taps-eq1
 unfolding taps_in_factory
-returns-then-taps-eq1 c = search (tests, c.unwritten.ensures, c.doing.ensures, c.single.ensures)
+returns-then-taps-eq1 c = search (tests, c.unwritten.ensures, c.doing.ensures, c.action_of.ensures)
 
 pub returns-then-taps-eq2 : goal.returns-then-taps-eq2
 unfolding taps_in_factory

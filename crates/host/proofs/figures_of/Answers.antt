@@ -3,4 +3,4 @@ use Rattle.host.proofs.figures_of.Goals as goal
 
 pub returns : goal.returns
 unfolding in_figures
-returns c = simp (c.mode_number.ensures, c.colour_number.ensures)
+returns c = simp (c.from-2.ensures, c.from.ensures)

@@ -7,4 +7,4 @@ returns-then-left-ne0 c = saves_not _ _ _ _ _ _ c.save_in-left.ensures c.next_sa
 
 pub returns : goal.returns
 returns c =
-    saves_due _ _ _ _ _ _ _ _ _ c.save_in-left.ensures c.next_save.ensures c.keep_save.ensures (omega arith) c.level_in.ensures c.percent.ensures c.apply.ensures
+    saves_due _ _ _ _ _ _ _ _ _ c.save_in-left.ensures c.next_save.ensures c.keep_save.ensures (omega arith) c.level_in.ensures c.from.ensures c.apply.ensures

@@ -7,7 +7,7 @@ returns-in-Guess c =
 
 pub returns-in-Read : goal.returns-in-Read
 returns-in-Read c =
-    reads _ _ _ _ _ _ _ _ _ _ _ _ _ _ _ _ c.in-Read.is c.level_in.ensures c.percent-percent.ensures c.mode_in.ensures
+    reads _ _ _ _ _ _ _ _ _ _ _ _ _ _ _ _ c.in-Read.is c.level_in.ensures c.from-percent.ensures c.mode_in.ensures
     c.password_of.ensures c.seen_by-seen.ensures c.send.ensures
 
 pub returns-in-Work : goal.returns-in-Work

@@ -3,7 +3,7 @@ use Rattle.obey.proofs.perform.Goals as goal
 
 pub returns-in-Report : goal.returns-in-Report
 returns-in-Report c =
-    reports _ _ _ _ _ _ _ _ _ _ _ c.in-Report.is c.level_in.ensures c.percent-percent.ensures c.send.ensures
+    reports _ _ _ _ _ _ _ _ _ _ _ c.in-Report.is c.level_in.ensures c.from-percent.ensures c.send.ensures
 
 pub returns-in-Close : goal.returns-in-Close
 returns-in-Close c = closes _ _ _ _ _ _ _ _ _ c.in-Close.is c.enter.ensures

@@ -4,4 +4,4 @@ use Rattle.orders.proofs.stored.Goals as goal
 
 pub returns : goal.returns
 unfolding stored
-returns c = search (tests, c.percent-percent.ensures)
+returns c = search (tests, c.from-percent.ensures)

@@ -9,4 +9,4 @@ returns-then-contacts-eq0 c = rw (← and_mask c.args.contacts 2) (search tests)
 
 pub returns : goal.returns
 unfolding left_by
-returns c = rw (← and_mask c.args.contacts 2) (search (tests, c.run_byte.ensures))
+returns c = rw (← and_mask c.args.contacts 2) (search (tests, c.run.ensures))

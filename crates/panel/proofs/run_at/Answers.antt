@@ -3,4 +3,4 @@ use Rattle.panel.proofs.run_at.Goals as goal
 
 pub returns : goal.returns
 unfolding ran_at
-returns c = rw (c.run_byte.ensures, c.left.ensures)
+returns c = rw (c.run.ensures, c.left.ensures)

@@ -5,5 +5,5 @@ use Rattle.turns.proofs.turned.Goals as goal
 pub returns : goal.returns
 returns c =
     let a = c.args in
-    turned_stands a.all.now _ a.core a.password c.password.result a.paddle a.gesture c.act-effect.result c.percent-percent.result c.announce.result _
-    c.act-effect.ensures c.apply.ensures c.percent-percent.ensures c.password.ensures c.announce.ensures refl
+    turned_stands a.all.now _ a.core a.password c.password.result a.paddle a.gesture c.act-effect.result c.from-percent.result c.announce.result _
+    c.act-effect.ensures c.apply.ensures c.from-percent.ensures c.password.ensures c.announce.ensures refl
