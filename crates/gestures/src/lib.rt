@@ -11,95 +11,62 @@ use places::Action;
 use vault::Mode;
 use writes::Write;
 
+// In Setup nothing but taps acts.
+#[tactic(auto, unfolding(crate::specs::Gestures::acted, crate::specs::Gestures::acted_in, crate::specs::Gestures::acted_in_normal, crate::specs::Gestures::acted_in_setup, crate::specs::Gestures::acted_in_factory))]
 pub fn act(core: Core, all: &[u8; 256], paddle: u8, gesture: Gesture) -> Effect
     ensures { result ≡ acted all.now paddle gesture core }
 {
-    let mode = core.mode;
-    match mode {
-        Mode::Normal => in_normal(core, all, paddle, gesture),
-        Mode::Setup => in_setup(core, gesture),
-        Mode::Factory => in_factory(core, all, paddle, gesture),
-    }
-}
-
-fn in_normal(core: Core, all: &[u8; 256], paddle: u8, gesture: Gesture) -> Effect
-    ensures { result ≡ acted_in_normal all.now paddle gesture core }
-{
-    match gesture {
-        Gesture::Nothing => core.unwritten(),
-        Gesture::Taps(taps) => taps_in_normal(core, all, paddle, taps),
-        Gesture::Hold => holding(core, all, paddle).unwritten(),
-        Gesture::Release => core.stopping(paddle).unwritten(),
-    }
-}
-
-fn in_setup(core: Core, gesture: Gesture) -> Effect
-    ensures { result ≡ acted_in_setup gesture core }
-{
-    match gesture {
-        Gesture::Nothing => core.unwritten(),
-        Gesture::Taps(taps) => taps_in_setup(core, taps),
-        Gesture::Hold => core.unwritten(),
-        Gesture::Release => core.unwritten(),
-    }
-}
-
-fn in_factory(core: Core, all: &[u8; 256], paddle: u8, gesture: Gesture) -> Effect
-    ensures { result ≡ acted_in_factory all.now paddle gesture core }
-{
-    match gesture {
-        Gesture::Nothing => core.unwritten(),
-        Gesture::Taps(taps) => taps_in_factory(core, all, paddle, taps),
-        Gesture::Hold => holding(core, all, paddle).unwritten(),
-        Gesture::Release => core.stopping(paddle).unwritten(),
+    match (core.mode, gesture) {
+        (Mode::Normal, Gesture::Taps(taps)) => taps_in_normal(core, all, paddle, taps),
+        (Mode::Setup, Gesture::Taps(taps)) => taps_in_setup(core, taps),
+        (Mode::Factory, Gesture::Taps(taps)) => taps_in_factory(core, all, paddle, taps),
+        (Mode::Setup, _) | (_, Gesture::Nothing) => core.unwritten(),
+        (_, Gesture::Hold) => holding(core, all, paddle).unwritten(),
+        (_, Gesture::Release) => core.stopping(paddle).unwritten(),
     }
 }
 
 // Normal: one tap and two act by the action table, five open Setup.
+#[tactic(auto, unfolding(crate::specs::Gestures::taps_in_normal))]
 fn taps_in_normal(core: Core, all: &[u8; 256], paddle: u8, taps: u8) -> Effect
     ensures { result ≡ taps_in_normal all.now paddle taps core }
 {
-    if taps == 1 {
-        return doing(core, all, paddle, places::action_of(all, paddle, 1)).unwritten();
+    match taps {
+        1 => doing(core, all, paddle, places::action_of(all, paddle, 1)).unwritten(),
+        2 => doing(core, all, paddle, places::action_of(all, paddle, 2)).unwritten(),
+        5 => core.opened(),
+        _ => core.unwritten(),
     }
-    if taps == 2 {
-        return doing(core, all, paddle, places::action_of(all, paddle, 2)).unwritten();
-    }
-    if taps == 5 {
-        return core.opened();
-    }
-    core.unwritten()
 }
 
 // Setup: two taps leave it, ten set the factory values.
+#[tactic(auto, unfolding(crate::specs::Gestures::taps_in_setup))]
 fn taps_in_setup(core: Core, taps: u8) -> Effect
     ensures { result ≡ taps_in_setup taps core }
 {
-    if taps == 2 {
-        return core.entering(Mode::Normal).unwritten();
-    }
-    if taps == 10 {
-        return Effect {
+    match taps {
+        2 => core.entering(Mode::Normal).unwritten(),
+        10 => Effect {
             core: core.entering(Mode::Factory),
             write: Write::Factory,
-        };
+        },
+        _ => core.unwritten(),
     }
-    core.unwritten()
 }
 
 // Factory Default: one tap acts as in Normal, two leave it.
+#[tactic(auto, unfolding(crate::specs::Gestures::taps_in_factory))]
 fn taps_in_factory(core: Core, all: &[u8; 256], paddle: u8, taps: u8) -> Effect
     ensures { result ≡ taps_in_factory all.now paddle taps core }
 {
-    if taps == 1 {
-        return doing(core, all, paddle, places::action_of(all, paddle, 1)).unwritten();
+    match taps {
+        1 => doing(core, all, paddle, places::action_of(all, paddle, 1)).unwritten(),
+        2 => core.entering(Mode::Normal).unwritten(),
+        _ => core.unwritten(),
     }
-    if taps == 2 {
-        return core.entering(Mode::Normal).unwritten();
-    }
-    core.unwritten()
 }
 
+#[tactic(auto, unfolding(crate::specs::Gestures::by_action))]
 fn doing(core: Core, all: &[u8; 256], paddle: u8, action: Action) -> Core
     ensures { result ≡ by_action all.now paddle action core }
 {
@@ -107,6 +74,7 @@ fn doing(core: Core, all: &[u8; 256], paddle: u8, action: Action) -> Core
 }
 
 // A Hold fades to full or off at the default rate, where the load can dim.
+#[tactic(auto, unfolding(crate::specs::Gestures::holding))]
 fn holding(core: Core, all: &[u8; 256], paddle: u8) -> Core
     ensures { result ≡ holding all.now paddle core }
 {
@@ -118,6 +86,7 @@ fn holding(core: Core, all: &[u8; 256], paddle: u8) -> Core
 }
 
 // The level at the paddle's end: 100 for the top, 0 for the bottom.
+#[tactic(auto, unfolding(crate::specs::Gestures::far))]
 fn far(paddle: u8) -> u8
     ensures { result ≡ far paddle }
 {

@@ -1,5 +1,5 @@
 -- What is promised of a paddle's packets, shown; and that no packet shows the password's places.
-use Rattle.std.specs.Prelude.{if◌then◌else◌}
+use Rattle.std.specs.Prelude.{Option, Some, None, if◌then◌else◌}
 use mathlib.Core.Bool.{Bool, true, false}
 use mathlib.Core.List.{List, []}
 use mathlib.Core.Path.{◌≡◌, refl, sym, ap, ◌∙◌}
@@ -12,7 +12,7 @@ use Rattle.units.specs.declared.Percent.{Percent}
 use Rattle.places.specs.Places.{network_in, unit_in, transmit_in, entry_place, entry_in}
 use Rattle.registers.specs.Registers.{valid, apart}
 use Rattle.post.specs.Post.{headed, enveloped, bytes_of, values_from, reply_message, replied}
-use Rattle.herald.specs.Herald.{gesture_message, announced, gesture_number, command_number, takes_level, trimmed, chosen}
+use Rattle.herald.specs.Herald.{gesture_message, announced, gesture_number, command_number, numbered, takes_level, trimmed, chosen}
 use Rattle.post.specs.Code.{note, no_note, note_header, sent_of}
 use Rattle.herald.specs.Code.{note_of, NoteSent}
 use Rattle.vault.specs.declared.Mode.{Mode}
@@ -46,11 +46,16 @@ announced_reads all mode paddle g p =
     both (Each (Carries (headed all true link) m)) (valid link)
     (carried true (network_in all) link (unit_in all) m (omega (arith, few_bytes (gesture_message all mode paddle g p)))) tt
 
--- Number 15 sends nothing.
-pub announced_silent : (all : List ℕ) (mode : Mode) (paddle : ℕ) (g : Gesture) (p : Percent)
-    → command_number mode (transmit_in all paddle) g % 16 ≡ 15 → announced all mode paddle g p ≡ []
+-- No number sends nothing, and nor does number 15.
+pub announced_unnumbered : (all : List ℕ) (mode : Mode) (paddle : ℕ) (g : Gesture) (p : Percent)
+    → command_number mode (transmit_in all paddle) g ≡ None → announced all mode paddle g p ≡ []
+unfolding announced gesture_message bytes_of enveloped
+announced_unnumbered all mode paddle g p e = rw e (both (λ l. l ≡ []) (valid (transmit_in all paddle).link) refl refl)
+
+pub announced_silent : (all : List ℕ) (mode : Mode) (paddle : ℕ) (g : Gesture) (p : Percent) (n : ℕ)
+    → command_number mode (transmit_in all paddle) g ≡ Some n → n % 16 ≡ 15 → announced all mode paddle g p ≡ []
 unfolding announced gesture_message chosen bytes_of enveloped
-announced_silent all mode paddle g p e = rw e (both (λ l. l ≡ []) (valid (transmit_in all paddle).link) refl refl)
+announced_silent all mode paddle g p n is e = rw (is, e) (both (λ l. l ≡ []) (valid (transmit_in all paddle).link) refl refl)
 
 -- A link that is not valid sends nothing.
 pub announced_unlinked : (all : List ℕ) (mode : Mode) (paddle : ℕ) (g : Gesture) (p : Percent)
@@ -58,16 +63,16 @@ pub announced_unlinked : (all : List ℕ) (mode : Mode) (paddle : ℕ) (g : Gest
 unfolding announced
 announced_unlinked all mode paddle g p e = rw e
 
--- Tap counts other than one and two have number 15.
+-- Tap counts other than one and two have no number.
 pub other_taps : (all : List ℕ) (mode : Mode) (paddle taps : ℕ) → (taps ≡ 1 → ⊥) → (taps ≡ 2 → ⊥)
-    → command_number mode (transmit_in all paddle) (Taps taps) ≡ 15
+    → command_number mode (transmit_in all paddle) (Taps taps) ≡ None
 unfolding command_number gesture_number
 other_taps all Normal paddle taps one two = rw (ne_eqb taps 1 one, ne_eqb taps 2 two)
 other_taps all Setup paddle taps one two = refl
 other_taps all Factory paddle taps one two = rw (ne_eqb taps 1 one, ne_eqb taps 2 two)
 
 -- So has no gesture at all.
-pub no_gesture : (all : List ℕ) (mode : Mode) (paddle : ℕ) → command_number mode (transmit_in all paddle) Nothing ≡ 15
+pub no_gesture : (all : List ℕ) (mode : Mode) (paddle : ℕ) → command_number mode (transmit_in all paddle) Nothing ≡ None
 unfolding command_number gesture_number
 no_gesture all Normal paddle = refl
 no_gesture all Setup paddle = refl
@@ -90,11 +95,12 @@ announces all paddle p =
           let long = message_length packet _ c.header in
           (omega arith, omega (arith, ap length c.bytes, few_bytes (gesture_message all mode paddle g p))))
           (announced_reads all mode paddle g p);
-      setup = λ g. announced_silent all Setup paddle g p refl;
-      nothing = λ mode. announced_silent all mode paddle Nothing p (rw (no_gesture all mode paddle));
-      double = announced_silent all Factory paddle (Taps 2) p refl;
-      others = λ mode taps one two. announced_silent all mode paddle (Taps taps) p (rw (other_taps all mode paddle taps one two));
-      silent = λ mode g e. announced_silent all mode paddle g p e;
+      setup = λ g. announced_unnumbered all Setup paddle g p refl;
+      nothing = λ mode. announced_unnumbered all mode paddle Nothing p (no_gesture all mode paddle);
+      double = announced_unnumbered all Factory paddle (Taps 2) p refl;
+      others = λ mode taps one two. announced_unnumbered all mode paddle (Taps taps) p (other_taps all mode paddle taps one two);
+      silent = λ mode g n is e. announced_silent all mode paddle g p n is e;
+      unnumbered = λ mode g e. announced_unnumbered all mode paddle g p e;
       unlinked = λ mode g e. announced_unlinked all mode paddle g p (rw e);
       unused = λ mode g e. announced_unlinked all mode paddle g p (rw e);
     }
@@ -126,11 +132,16 @@ entry_apart all n =
     }
 
 -- Nor does what a paddle sends depend on what the array holds at 0x02 and 0x03.
+numbered_apart : (all : List ℕ) (number : Option ℕ) (p : Percent) → numbered (apart all) number p ≡ numbered all number p
+unfolding chosen
+numbered_apart all None p = refl
+numbered_apart all (Some number) p = rw (entry_apart all (number % 16))
+
 pub announced_apart : (all : List ℕ) (mode : Mode) (paddle : ℕ) (g : Gesture) (p : Percent)
     → announced (apart all) mode paddle g p ≡ announced all mode paddle g p
-unfolding announced gesture_message chosen
+unfolding announced gesture_message
 announced_apart all mode paddle g p =
-    rw (transmit_apart all paddle, apart_other all 0 refl, apart_other all 1 refl, entry_apart all (command_number mode (transmit_in all paddle) g % 16))
+    rw (transmit_apart all paddle, apart_other all 0 refl, apart_other all 1 refl, numbered_apart all (command_number mode (transmit_in all paddle) g) p)
 
 pub hides : Hides
 unfolding reply_message values_from
@@ -145,7 +156,7 @@ pub case_j : CaseJ
 unfolding announced gesture_message chosen trimmed takes_level bytes_of enveloped
 case_j =
     record {
-      sends = λ all mode paddle g p linked below e. rw (linked, ne_eqb (command_number mode (transmit_in all paddle) g % 16) 15 (omega arith), ne_eqb (command_number mode (transmit_in all paddle) g % 16) 14 (omega arith), e);
+      sends = λ all mode paddle g p n linked is below e. rw (linked, is, ne_eqb (n % 16) 15 (omega arith), ne_eqb (n % 16) 14 (omega arith), e);
       goto = refl;
       fade = refl;
       blink = refl;

@@ -1,5 +1,5 @@
 -- What a paddle's gesture sends: its link packet (01, Paddles, 12 to 15).
-use Rattle.std.specs.Prelude.{Bool, true, not, ◌||◌, List, [], ℕ, ◌%◌, eqb, if◌then◌else◌}
+use Rattle.std.specs.Prelude.{Bool, true, not, ◌||◌, List, [], ℕ, ◌%◌, eqb, if◌then◌else◌, Option, Some, None}
 use Rattle.units.specs.declared.Percent.{Percent}
 use Rattle.vault.specs.declared.Mode.{Mode}
 use Rattle.vault.specs.declared.Mode.TheVariants.{Normal, Setup, Factory}
@@ -22,17 +22,17 @@ abbrev pub report : ℕ
 report = 14
 
 -- 01, Paddles, 12: the command number of a gesture, one for each of the four that send. That of a double is handed in.
-unfoldable pub gesture_number : Transmit → ℕ → Gesture → ℕ
-gesture_number t double Nothing = no_command
-gesture_number t double (Taps taps) = if eqb taps 1 then t.single else if eqb taps 2 then double else no_command
-gesture_number t double Hold = t.hold
-gesture_number t double Release = t.release
+unfoldable pub gesture_number : Transmit → Option ℕ → Gesture → Option ℕ
+gesture_number t double Nothing = None
+gesture_number t double (Taps taps) = if eqb taps 1 then Some t.single else if eqb taps 2 then double else None
+gesture_number t double Hold = Some t.hold
+gesture_number t double Release = Some t.release
 
 -- 01, Paddles, 12: no gesture sends in Setup, and no double in Factory Default.
-unfoldable pub command_number : Mode → Transmit → Gesture → ℕ
-command_number Normal t g = gesture_number t t.double g
-command_number Setup t g = no_command
-command_number Factory t g = gesture_number t no_command g
+unfoldable pub command_number : Mode → Transmit → Gesture → Option ℕ
+command_number Normal t g = gesture_number t (Some t.double) g
+command_number Setup t g = None
+command_number Factory t g = gesture_number t None g
 
 -- 01, Paddles, 15: Goto and Fade Start, whose first argument is a level, 255 too.
 unfoldable pub takes_level : ℕ → Bool
@@ -54,9 +54,14 @@ chosen all number percent =
     else if eqb (number % 16) report then status percent
     else trimmed (entry_in all (number % 16))
 
+-- The message of a command number, if there is one.
+abbrev pub numbered : List ℕ → Option ℕ → Percent → Message
+numbered all None percent = Empty
+numbered all (Some number) percent = chosen all number percent
+
 -- The message of a paddle's gesture, in the mode that it finds.
 unfoldable pub gesture_message : List ℕ → Mode → ℕ → Gesture → Percent → Message
-gesture_message all mode paddle g percent = chosen all (command_number mode (transmit_in all paddle) g) percent
+gesture_message all mode paddle g percent = numbered all (command_number mode (transmit_in all paddle) g) percent
 
 -- 01, Paddles, 12: a link packet, if the component has a valid link. The mode is the one before the gesture acts, the percent the one after.
 unfoldable pub announced : List ℕ → Mode → ℕ → Gesture → Percent → List (List ℕ)

@@ -1,6 +1,6 @@
 -- What is promised of a paddle's packets beyond the single functions: our own reader takes each of them, what a paddle never sends, what no
 -- packet shows of the password's places, and case (j).
-use Rattle.std.specs.Prelude.{true, List, [], ◌∷◌, ◌≡◌, ℕ, suc, ◌+◌, ◌%◌, ◌≤◌, ◌<◌, min, length, get_or, Option, None}
+use Rattle.std.specs.Prelude.{true, List, [], ◌∷◌, ◌≡◌, ℕ, suc, ◌+◌, ◌%◌, ◌≤◌, ◌<◌, min, length, get_or, Option, Some, None}
 use Rattle.units.specs.declared.Percent.{Percent}
 use Rattle.vault.specs.declared.Mode.{Mode}
 use Rattle.vault.specs.declared.Mode.TheVariants.{Setup, Factory}
@@ -33,7 +33,9 @@ pub record Announces (all : List ℕ) (paddle : ℕ) (p : Percent) : Type 0 wher
   pub nothing : (mode : Mode) → announced all mode paddle Nothing p ≡ []
   pub double : announced all Factory paddle (Taps 2) p ≡ []
   pub others : (mode : Mode) (taps : ℕ) → (taps ≡ 1 → ⊥) → (taps ≡ 2 → ⊥) → announced all mode paddle (Taps taps) p ≡ []
-  pub silent : (mode : Mode) (g : Gesture) → command_number mode (transmit_in all paddle) g % 16 ≡ 15 → announced all mode paddle g p ≡ []
+  pub silent : (mode : Mode) (g : Gesture) (n : ℕ)
+      → command_number mode (transmit_in all paddle) g ≡ Some n → n % 16 ≡ 15 → announced all mode paddle g p ≡ []
+  pub unnumbered : (mode : Mode) (g : Gesture) → command_number mode (transmit_in all paddle) g ≡ None → announced all mode paddle g p ≡ []
   pub unlinked : (mode : Mode) (g : Gesture) → (transmit_in all paddle).link ≡ 0 → announced all mode paddle g p ≡ []
   pub unused : (mode : Mode) (g : Gesture) → (transmit_in all paddle).link ≡ 255 → announced all mode paddle g p ≡ []
 
@@ -53,10 +55,11 @@ entry command first second = record { command = command; first = first; second =
 
 -- 01, Numbers to test by, 10 (j): the entry is cut to two bytes, whatever gesture, paddle and mode choose it; and how others are cut.
 pub record CaseJ : Type 0 where
-  pub sends : (all : List ℕ) (mode : Mode) (paddle : ℕ) (g : Gesture) (p : Percent)
+  pub sends : (all : List ℕ) (mode : Mode) (paddle : ℕ) (g : Gesture) (p : Percent) (n : ℕ)
       → valid (transmit_in all paddle).link ≡ true
-      → command_number mode (transmit_in all paddle) g % 16 < 14
-      → entry_in all (command_number mode (transmit_in all paddle) g % 16) ≡ entry 0x22 0xFF 0xFF
+      → command_number mode (transmit_in all paddle) g ≡ Some n
+      → n % 16 < 14
+      → entry_in all (n % 16) ≡ entry 0x22 0xFF 0xFF
       → announced all mode paddle g p ≡ packed (headed all true (transmit_in all paddle).link) (0x22 ∷ 0xFF ∷ []) ∷ []
   pub goto : bytes_of (trimmed (entry 0x22 0xFF 0xFF)) ≡ 0x22 ∷ 0xFF ∷ []
   pub fade : bytes_of (trimmed (entry 0x23 0xFF 0xFF)) ≡ 0x23 ∷ 0xFF ∷ []

@@ -2,7 +2,7 @@
 #![tactic(auto)]
 
 ghost use Rattle.std.specs.Prelude.{◌≡◌};
-ghost use Rattle.herald.specs.Herald.{command_number, gesture_number, chosen, trimmed, takes_level};
+ghost use Rattle.herald.specs.Herald.{command_number, chosen, trimmed, takes_level};
 ghost use Rattle.herald.specs.Code.{note_of};
 
 use paddle::Gesture;
@@ -25,92 +25,69 @@ const FADE: u8 = 0x23;
 const ABSENT: u8 = 255;
 
 // What a paddle's gesture sends, in the mode that it finds; the percent is the one after the act.
+#[tactic(auto, unfolding(crate::specs::Code::note_of, crate::specs::Herald::gesture_message))]
 pub fn announce(all: &[u8; 256], mode: Mode, paddle: u8, gesture: Gesture, percent: Percent) -> Note
     ensures { result ≡ note_of all.now mode paddle gesture percent }
 {
     let transmit = places::transmit_of(all, paddle);
-    let link = transmit.link;
-    if registers::valid(link) {
-        let number = number(mode, transmit, gesture);
-        return Note {
-            network: places::network(all),
-            source: places::unit(all),
-            destination: link,
-            message: chosen(all, number, percent),
-        };
+    if !registers::valid(transmit.link) {
+        return Note::none();
     }
-    Note::none()
+    let message = match number(mode, transmit, gesture) {
+        Some(number) => chosen(all, number, percent),
+        None => Message::Empty,
+    };
+    Note {
+        network: places::network(all),
+        source: places::unit(all),
+        destination: transmit.link,
+        message,
+    }
 }
 
-// The command number of a gesture in a mode: none in Setup, and none for a double in Factory Default.
-fn number(mode: Mode, transmit: Transmit, gesture: Gesture) -> u8
+// The command number of a gesture in a mode, if it sends: none in Setup, and no double in Factory Default.
+#[tactic(auto, unfolding(crate::specs::Herald::command_number, crate::specs::Herald::gesture_number))]
+fn number(mode: Mode, transmit: Transmit, gesture: Gesture) -> Option<u8>
     ensures { result ≡ command_number mode transmit gesture }
 {
-    match mode {
-        Mode::Normal => gesture_number(transmit, transmit.double, gesture),
-        Mode::Setup => NONE,
-        Mode::Factory => gesture_number(transmit, NONE, gesture),
-    }
-}
-
-// The transmit component's number for the gesture; `double` is the one for two taps.
-fn gesture_number(transmit: Transmit, double: u8, gesture: Gesture) -> u8
-    ensures { result ≡ gesture_number transmit double gesture }
-{
-    match gesture {
-        Gesture::Nothing => NONE,
-        Gesture::Taps(taps) => {
-            if taps == 1 {
-                return transmit.single;
-            }
-            if taps == 2 {
-                return double;
-            }
-            NONE
-        }
-        Gesture::Hold => transmit.hold,
-        Gesture::Release => transmit.release,
+    match (mode, gesture) {
+        (Mode::Setup, _) | (Mode::Factory, Gesture::Taps(2)) => None,
+        (_, Gesture::Taps(1)) => Some(transmit.single),
+        (_, Gesture::Taps(2)) => Some(transmit.double),
+        (_, Gesture::Taps(_) | Gesture::Nothing) => None,
+        (_, Gesture::Hold) => Some(transmit.hold),
+        (_, Gesture::Release) => Some(transmit.release),
     }
 }
 
 // By the low four bits of the command number.
+#[tactic(auto, unfolding(crate::specs::Herald::chosen))]
 fn chosen(all: &[u8; 256], number: u8, percent: Percent) -> Message
     ensures { result ≡ chosen all.now number percent }
 {
-    let low = number % 16;
-    if low == NONE {
-        return Message::Empty;
+    match number % 16 {
+        NONE => Message::Empty,
+        REPORT => Message::Two(STATUS, percent.0),
+        low => trimmed(places::entry_at(all, low)),
     }
-    if low == REPORT {
-        return Message::Two(STATUS, percent.0);
-    }
-    trimmed(places::entry_at(all, low))
 }
 
 // An entry of the command table without its absent arguments.
+#[tactic(auto, unfolding(crate::specs::Herald::trimmed))]
 fn trimmed(entry: Entry) -> Message
     ensures { result ≡ trimmed entry }
 {
-    let command = entry.command;
-    let first = entry.first;
-    let second = entry.second;
-    if command == ABSENT {
-        return Message::Empty;
+    match (entry.command, entry.first, entry.second) {
+        (ABSENT, _, _) => Message::Empty,
+        (command, ABSENT, ABSENT) if !takes_level(command) => Message::One(command),
+        (command, first, ABSENT) => Message::Two(command, first),
+        (command, first, second) => Message::Three(command, first, second),
     }
-    if second != ABSENT {
-        return Message::Three(command, first, second);
-    }
-    if first != ABSENT {
-        return Message::Two(command, first);
-    }
-    if takes_level(command) {
-        return Message::Two(command, first);
-    }
-    Message::One(command)
 }
 
+#[tactic(auto, unfolding(crate::specs::Herald::takes_level))]
 fn takes_level(command: u8) -> bool
     ensures { result ≡ takes_level command }
 {
-    command == GOTO || command == FADE
+    matches!(command, GOTO | FADE)
 }

@@ -1,39 +1,28 @@
 -- A tick in place, over what its callees promise.
-use Rattle.std.specs.Prelude.{◌≡◌, ℕ, suc, ◌+◌, ◌<◌, ◌≤◌, Bool, true, false, eqb, List, [], length, get_or, drop}
+use Rattle.std.specs.Prelude.{◌≡◌, ℕ, ◌+◌, ◌<◌, Bool, true, false, List, [], ◌∷◌, Option, length, get_or, drop}
 use mathlib.Core.Path.{refl, sym, ap, subst, ◌∙◌}
 use native.Mathlib.Numerals.{add-one}
-use lib.ListN.{drop_of_length-le}
 use lib.Seq.{drop-cons}
-use borrow.Author.Tests.{eq-eqb, ne_eqb}
-use Rattle.words.proofs.Laws.{both}
-use Rattle.timers.specs.Timers.{less, metronome}
-use Rattle.units.specs.Units.{percent_of}
-use Rattle.units.specs.declared.Percent.{Percent}
-use Rattle.units.specs.declared.Step.{Step}
+use borrow.Author.Tests.{ne_eqb}
+use Rattle.timers.specs.Timers.{less}
 use Rattle.lamp.specs.Lamp.{entered, next_lamp}
 use Rattle.lamp.specs.declared.Lamp.{Lamp}
 use Rattle.vault.specs.Job.{became, changed, nothing}
 use Rattle.vault.specs.declared.Mode.{Mode}
-use Rattle.vault.specs.declared.Mode.TheVariants.{Normal, Setup, Factory}
-use Rattle.vault.specs.declared.Password.{Password}
 use Rattle.dimmer.specs.Dimmer.{ticked}
 use Rattle.dimmer.specs.declared.Dimmer.{Dimmer}
 use Rattle.paddle.specs.declared.Gesture.{Gesture}
 use Rattle.paddle.specs.declared.Gesture.TheVariants.{Nothing, Taps}
-use Rattle.writes.specs.Writes.{applied, change_at, change_of}
-use Rattle.writes.specs.declared.Write.{Write}
-use Rattle.writes.specs.declared.Write.TheVariants.{Save, Nothing as Unwritten, Factory as FactoryValues}
-use Rattle.acts.specs.Core.{aged, entering, save_ticks, saved, to_save}
+use Rattle.writes.specs.Writes.{applied, change_of}
+use Rattle.acts.specs.Core.{aged, entering, saved}
 use Rattle.gestures.specs.Gestures.{leads, writes}
 use Rattle.acts.specs.declared.Core.{Core}
-use Rattle.state.specs.State.{core_of, dimmer_of, lamp_of, level_in, mode_in, password_of, save_in}
+use Rattle.state.specs.State.{core_of, dimmer_of, lamp_of, mode_in, password_of, save_in}
 use Rattle.state.specs.Keeping.{kept_counters, kept_mode, kept_numbers, kept_password, kept_save, kept_timers}
 use Rattle.state.specs.Code.{CoreKept, DimmerKept, Sized, idle_in, kept_left, left_in}
 use Rattle.state.proofs.Laws.{core_back, lamp_of_course, lamp_of_levels, password_of_levels, password_of_mode, password_same, save_of_course}
 use Rattle.state.proofs.Laws.{save_over, shift_keeps, tick_between, tick_idle, tick_keeps}
-use Rattle.moves.specs.Code.{Moves, Saves, Shifts, Writes, alongside, lone, passed_core, shifted, taps_of, with}
-use Rattle.moves.specs.declared.shift.Alone.{Alone}
-use Rattle.moves.specs.declared.shift.Alone.TheVariants.{Nobody}
+use Rattle.moves.specs.Code.{Moves, Saves, Shifts, Writes, alongside, passed_core, shifted}
 
 -- The dimmer of a quick tick by its three ways: nothing moves, a beat, between two beats.
 pub moves_not : (c n : List ℕ) (still : Bool) → still ≡ idle_in n → still ≡ true → Moves c n c n
@@ -69,22 +58,6 @@ passes c n c₁ n₁ save save' lamp lamp' c₂ c₃ moves reads runs lit ticks 
       counted = timed ∙ rw (kept, saves, lamps, moves.counted) (sym whole.0);
       numbered = moves.numbered ∙ sym whole.1;
     }
-
--- The save: the metronome beats, or it does not.
-pub saves_not :
-    (c n all : List ℕ) (left next : ℕ) (c' : List ℕ)
-    → left ≡ save_in c → next ≡ metronome save_ticks left → c' ≡ kept_save next c → (left ≡ 0 → ⊥) → Saves c n all c' all
-unfolding saved to_save core_of applied
-saves_not c n all left next c' read runs kept some =
-    record { counted = kept ∙ rw (runs, read); registers = rw (ne_eqb (save_in c) 0 (λ e. some (read ∙ e))) }
-
-pub saves_due :
-    (c n all : List ℕ) (left next : ℕ) (level : Step) (percent : Percent) (c' all' : List ℕ)
-    → left ≡ save_in c → next ≡ metronome save_ticks left → c' ≡ kept_save next c → left ≡ 0
-    → level ≡ level_in n → percent ≡ percent_of level → all' ≡ applied (Save percent) [] all → Saves c n all c' all'
-unfolding saved to_save core_of dimmer_of
-saves_due c n all left next level percent c' all' read runs kept none shown told writes =
-    record { counted = kept ∙ rw (runs, read); registers = writes ∙ rw (eq-eqb (save_in c) 0 (sym read ∙ none), told, shown) }
 
 -- A tick whose taps move the mode, over what its callees promise.
 pub shifts_all :
@@ -122,54 +95,12 @@ shifts_all taps c n all mode to c₁ n₁ l₀ l₁ l₂ c₂ n₂ n₃ all₁ c
           ∙ ap (applied (saved next).write []) (wrote.registers ∙ ap (λ (m : Mode). applied (writes m (Taps taps)) [] all) is);
     }
 
--- What taps write, by the mode that they find. None but the ten of Setup touch the password.
-keeps_password : (w : Write) (n : List ℕ) → change_of w [] ≡ nothing → kept_password (changed (change_of w []) (password_of n)) n ≡ n
+-- What leaves the password alone leaves its bytes as they are.
+pub keeps_password : (n : List ℕ) → kept_password (changed nothing (password_of n)) n ≡ n
 unfolding changed became
-keeps_password w n none = rw none (password_same n)
+keeps_password n = password_same n
 
-normal_keeps : (taps : ℕ) → change_of (writes Normal (Taps taps)) [] ≡ nothing
-unfolding writes change_of change_at
-normal_keeps taps = both (λ (w : Write). change_of w [] ≡ nothing) (eqb taps 5) refl refl
-
-pub writes_in_normal :
-    (mode : Mode) (taps : ℕ) (n all all' : List ℕ) → mode ≡ Normal → all' ≡ applied (writes Normal (Taps taps)) [] all → Writes mode taps n all n all'
-writes_in_normal mode taps n all all' is wrote =
-    rw is record { numbered = sym (keeps_password (writes Normal (Taps taps)) n (normal_keeps taps)); registers = wrote }
-
-pub writes_in_setup :
-    (mode : Mode) (taps : ℕ) (n all n' all' : List ℕ) → mode ≡ Setup → Writes Setup taps n all n' all' → Writes mode taps n all n' all'
-writes_in_setup mode taps n all n' all' is wrote = rw is wrote
-
-pub writes_in_factory : (mode : Mode) (taps : ℕ) (n all : List ℕ) → mode ≡ Factory → Writes mode taps n all n all
-unfolding writes applied change_of change_at
-writes_in_factory mode taps n all is =
-    rw is record { numbered = sym (keeps_password (writes Factory (Taps taps)) n refl); registers = refl }
-
-pub writes_ten :
-    (taps : ℕ) (n all : List ℕ) (w w' : Password) (n' all' : List ℕ)
-    → taps ≡ 10 → w ≡ password_of n → w' ≡ changed (change_of FactoryValues []) w → n' ≡ kept_password w' n → all' ≡ applied FactoryValues [] all
-    → Writes Setup taps n all n' all'
-unfolding writes
-writes_ten taps n all w w' n' all' ten own changes kept wrote =
-    rw ten record { numbered = kept ∙ rw (changes, own); registers = wrote }
-
-pub writes_none : (taps : ℕ) (n all : List ℕ) → (taps ≡ 10 → ⊥) → Writes Setup taps n all n all
-unfolding writes applied change_of change_at
-writes_none taps n all other =
-    record { numbered = rw (ne_eqb taps 10 other) (sym (keeps_password Unwritten n refl)); registers = rw (ne_eqb taps 10 other) }
-
--- The loop over the gestures: what is left goes beside what there is.
+-- The loop over the gestures: the next one stands in front of the others.
 pub beside_next :
-    (gs : List Gesture) (i : ℕ) (a b : Alone) (all : Alone) → i < length gs → b ≡ with a (get_or gs i Nothing)
-    → alongside a (drop i gs) ≡ all → alongside b (drop (i + 1) gs) ≡ all
-unfolding alongside
-beside_next gs i a b all low more h =
-    ap (λ (k : ℕ). alongside b (drop k gs)) (add-one i)
-    ∙ ap (λ (x : Alone). alongside x (drop (suc i) gs)) more
-    ∙ ap (alongside a) (sym (drop-cons gs i Nothing low))
-    ∙ h
-
-pub beside_ends : (gs : List Gesture) (i : ℕ) (a : Alone) (taps : ℕ) → length gs ≤ i → alongside a (drop i gs) ≡ alongside Nobody gs → taps ≡ taps_of a → taps ≡ lone gs
-unfolding alongside lone
-beside_ends gs i a taps over h told =
-    told ∙ ap taps_of (sym (ap (alongside a) (drop_of_length-le gs over)) ∙ h)
+    (gs : List Gesture) (i : ℕ) (so_far : Option ℕ) → i < length gs → alongside so_far (drop i gs) ≡ alongside so_far (get_or gs i Nothing ∷ drop (i + 1) gs)
+beside_next gs i so_far low = rw (add-one, drop-cons gs i Nothing low)

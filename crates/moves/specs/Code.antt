@@ -1,5 +1,5 @@
 -- What the code and the proofs are cut by: no promise under the roof needs a definition of this file.
-use Rattle.std.specs.Prelude.{◌≡◌, ℕ, Bool, ◌||◌, List, [], ◌∷◌, ◌==◌}
+use Rattle.std.specs.Prelude.{◌≡◌, ℕ, Bool, ◌||◌, List, [], ◌∷◌, ◌==◌, Option, Some, None}
 use Rattle.timers.specs.Timers.{less}
 use Rattle.lamp.specs.Lamp.{next_lamp}
 use Rattle.vault.specs.Job.{changed}
@@ -15,8 +15,6 @@ use Rattle.acts.specs.declared.Core.{Core}
 use Rattle.state.specs.State.{core_of, dimmer_of, password_of}
 use Rattle.state.specs.Keeping.{kept_course, kept_levels, kept_password, kept_save}
 use Rattle.state.specs.Code.{CoreKept}
-use Rattle.moves.specs.declared.shift.Alone.{Alone}
-use Rattle.moves.specs.declared.shift.Alone.TheVariants.{Nobody, One, More}
 
 -- The core after a tick that completes no gesture and saves nothing.
 unfoldable pub passed_core : Core → Core
@@ -32,33 +30,18 @@ pub record Saves (counters numbers all counters' all' : List ℕ) : Type 0 where
   pub counted : counters' ≡ kept_save (saved (core_of counters numbers)).core.save counters
   pub registers : all' ≡ applied (saved (core_of counters numbers)).write [] all
 
--- A run of taps beside what the paddles before it complete.
-unfoldable pub one_more : Alone → ℕ → Alone
-one_more Nobody taps = One taps
-one_more (One n) taps = More
-one_more More taps = More
+-- Gestures beside those of the paddles before them, which are a run of taps or none: the taps of the one run that there is.
+unfoldable pub alongside : Option ℕ → List Gesture → Option ℕ
+alongside so_far [] = so_far
+alongside so_far (Nothing ∷ gs) = alongside so_far gs
+alongside None (Taps taps ∷ gs) = alongside (Some taps) gs
+alongside (Some n) (Taps taps ∷ gs) = None
+alongside so_far (Hold ∷ gs) = None
+alongside so_far (Release ∷ gs) = None
 
--- A gesture beside them.
-unfoldable pub with : Alone → Gesture → Alone
-with a Nothing = a
-with a (Taps taps) = one_more a taps
-with a Hold = More
-with a Release = More
-
--- All of a tick beside them.
-unfoldable pub alongside : Alone → List Gesture → Alone
-alongside a [] = a
-alongside a (g ∷ gs) = alongside (with a g) gs
-
--- The taps of a run that is alone.
-unfoldable pub taps_of : Alone → ℕ
-taps_of Nobody = 0
-taps_of (One taps) = taps
-taps_of More = 0
-
--- Those of a tick that completes one run of taps and nothing else.
-unfoldable pub lone : List Gesture → ℕ
-lone gs = taps_of (alongside Nobody gs)
+-- The taps of a tick that completes one run of them and nothing else.
+unfoldable pub lone : List Gesture → Option ℕ
+lone gs = alongside None gs
 
 -- These taps move the mode.
 unfoldable pub shifts : Mode → ℕ → Bool

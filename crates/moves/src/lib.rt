@@ -31,6 +31,7 @@ pub fn pass(counters: &mut [u16; COUNTERS], numbers: &mut [u8; NUMBERS])
 }
 
 // Between two beats of a motion its metronome runs, and nothing else.
+#[tactic(auto, using(crate::proofs::Laws::moves_beat))]
 fn move_on(counters: &mut [u16; COUNTERS], numbers: &mut [u8; NUMBERS])
     ensures { Moves counters.old numbers.old counters.new numbers.new }
 {
@@ -47,6 +48,7 @@ fn move_on(counters: &mut [u16; COUNTERS], numbers: &mut [u8; NUMBERS])
 }
 
 // The last stage of a tick: the save, where it is due.
+#[tactic(auto, unfolding(acts::specs::Core::saved, acts::specs::Core::to_save, state::specs::State::core_of, state::specs::State::dimmer_of, writes::specs::Writes::applied))]
 fn save(counters: &mut [u16; COUNTERS], numbers: &[u8; NUMBERS], all: &mut [u8; 256])
     ensures { Saves counters.old numbers.now all.old counters.new all.new }
 {

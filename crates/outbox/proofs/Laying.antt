@@ -1,13 +1,13 @@
 -- The outbox: notes put in one after the other, their packets laid one after the other and counted.
 use mathlib.Core.Bool.{false}
-use mathlib.Core.List.{List, [], ◌∷◌, ◌++◌, map, append_assoc, append-nil}
+use mathlib.Core.List.{List, [], ◌∷◌, ◌++◌, append_assoc, append-nil}
 use mathlib.Core.Path.{◌≡◌, refl, sym, ap, ◌∙◌}
 use Prim.Native.Nat.{ℕ, zero, suc, ◌+◌, ◌-◌, ◌*◌, ◌≤◌, ◌<◌, min}
 use native.Mathlib.Numerals.{add-one}
 use native.Mathlib.Omega.{arith}
 use borrow.Author.Tests.{lt-ltb}
 use lib.Dec.{ltb, eqb}
-use lib.ListN.{length, get_or, take, drop, set, length-append, length-set, length-map, length-drop, drop_of_length-le}
+use lib.ListN.{length, get_or, take, drop, set, length-append, length-set, length-drop, length-take, drop_of_length-le}
 use lib.Seq.{take-suc, take-suc-set, take_all}
 use Rattle.std.specs.Prelude.{Option}
 use Rattle.words.proofs.Laws.{both, cases, one_outcome, two_ways}
@@ -25,10 +25,6 @@ use Rattle.post.specs.Code.{no_note, sent_of, front, Laid}
 use Rattle.outbox.specs.Code.{placed_at, counted, lone, noted, packets_in, no_notes, boxed, Sends}
 use Rattle.outbox.proofs.Laws.{place_front, clamped, note_next, note_count, message_count, whole_buffer, reply_placed}
 use Rattle.post.proofs.Laws.{note_fits, laid_fits, reply_fits}
-
--- The length of an array whose elements are read one by one.
-pub length_of_mapped : (X Y : Type 0) (f : X → Y) (l : List X) (n : ℕ) → length (map f l) ≡ n → length l ≡ n
-length_of_mapped X Y f l n e = sym (length-map l f) ∙ e
 
 -- A list of one packet at most: what its length comes to.
 pub counted_few : (size : ℕ) → counted size ≤ 1
@@ -192,19 +188,23 @@ module _ (notes : List Note) (before : List ℕ) (i count : ℕ) (lengths after 
         bytes = laid_from n (place * length packets) start answer after part from laid ∙ rw u.bytes (note_next n packets before);
       }
 
-  -- After the last one all are laid.
-  pub laying_ends : (k : ℕ) → length notes ≡ paddle_count → i ≡ min k paddle_count
-      → Sends (packets_in (record { count = k; notes = notes })) before (record { lengths = lengths; count = count }) after
-  unfolding packets_in tally
-  laying_ends k whole last =
-      let all : take i notes ≡ take k notes =
-      two_ways k paddle_count (λ fewer. let same : i ≡ k = omega arith in rw same)
-      (λ full. take_all i notes (omega arith) ∙ sym (take_all k notes (omega arith))) in
-      rw (← all)
-      record {
-        counted = λ j. record { lengths = u.sizes j; count = u.reached j };
-        bytes = u.bytes;
-      }
+-- After the last one that is counted all are laid.
+pub laying_ends : (box : Outbox) (before : List ℕ) (i count : ℕ) (lengths after : List ℕ)
+    → length box.notes ≡ paddle_count → Underway (noted (take i (take (min box.count paddle_count) box.notes))) before i count lengths after → min box.count paddle_count ≤ i
+    → Sends (packets_in box) before (record { lengths = lengths; count = count }) after
+unfolding packets_in tally
+laying_ends box before i count lengths after whole u last =
+    let end = min box.count paddle_count in
+    let short : length (take end box.notes) ≤ i = rw (length-take end box.notes) (omega arith) in
+    let same : take i (take end box.notes) ≡ take box.count box.notes =
+    take_all i (take end box.notes) short
+    ∙ two_ways box.count paddle_count (λ fewer. let e : end ≡ box.count = omega arith in rw e)
+    (λ full. let e : end ≡ paddle_count = omega arith in rw e (take_all paddle_count box.notes (omega arith) ∙ sym (take_all box.count box.notes (omega arith)))) in
+    rw (← same)
+    record {
+      counted = λ j. record { lengths = u.sizes j; count = u.reached j };
+      bytes = u.bytes;
+    }
 
 -- No two outcomes: the packets fix the count with the lengths, and every byte of the buffer.
 pub one_sending : (packets : List (List ℕ)) (before after after' : List ℕ) (r r' : Sent)

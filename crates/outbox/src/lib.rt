@@ -14,6 +14,7 @@ use post::{Message, Note};
 const AROUND: u8 = 6;
 
 // The packets that an event sent: the length of each in its order, 0 where there is none, and how many.
+// Stays as it is: the figures of the C interface are these lengths and this count.
 #[derive(Clone, Copy)]
 pub struct Sent {
     pub lengths: [u8; PADDLES],
@@ -28,6 +29,7 @@ pub struct Outbox {
 }
 
 impl Sent {
+    #[tactic(auto, unfolding(crate::specs::Outbox::tally, crate::specs::Outbox::lengths_in))]
     pub fn none() -> Sent
         ensures { result ≡ tally [] }
     {
@@ -38,6 +40,7 @@ impl Sent {
     }
 
     // One packet of so many bytes; one of no bytes is none.
+    #[tactic(auto, unfolding(crate::specs::Code::lone, crate::specs::Outbox::lengths_in))]
     pub fn one(length: u8) -> Sent
         ensures { result ≡ lone length }
     {
@@ -61,6 +64,7 @@ impl Outbox {
     }
 
     // One note more. An empty one is none, and a full box stays as it is.
+    #[tactic(auto, unfolding(crate::specs::Code::boxed))]
     pub fn with(self, note: Note) -> Outbox
         ensures { result ≡ boxed self note }
     {
@@ -84,26 +88,23 @@ impl Outbox {
     pub fn lay(self, out: &mut [u8]) -> Sent
         ensures { Sends (packets_in self) out.old result out.new }
     {
-        let notes = self.notes;
-        let end = least(self.count as usize, PADDLES);
-        let mut lengths = [0u8; PADDLES];
+        let end = (self.count as usize).min(PADDLES);
+        let mut lengths = [0; PADDLES];
         let mut count = 0u8;
-        let mut i = 0;
-        while i < end {
-            let note = notes[i];
+        for note in &self.notes[..end] {
             let at = count as usize;
-            let length = size(note);
-            let start = least(at * PLACE, out.len());
-            post::lay(note, &mut out[start..]);
+            let length = size(*note);
+            let start = (at * PLACE).min(out.len());
+            post::lay(*note, &mut out[start..]);
             lengths[at] = length;
             count += counted(length);
-            i += 1;
         }
         Sent { lengths, count }
     }
 }
 
 // The length of a note's packet, 0 where there is none.
+#[tactic(auto, using(packet::proofs::Laws::packed_length), unfolding(post::specs::Code::sent_of, post::specs::Code::front, post::specs::Post::bytes_of, post::specs::Post::enveloped))]
 fn size(note: Note) -> u8
     ensures { result ≡ length (front (sent_of note)) }
 {
@@ -117,20 +118,9 @@ fn size(note: Note) -> u8
 }
 
 // How many packets of this length count: none of length 0.
+#[tactic(auto, unfolding(crate::specs::Code::counted))]
 fn counted(length: u8) -> u8
     ensures { result ≡ counted length }
 {
-    if length == 0 {
-        return 0;
-    }
-    1
-}
-
-fn least(a: usize, b: usize) -> usize
-    ensures { result ≡ min a b }
-{
-    if a < b {
-        return a;
-    }
-    b
+    u8::from(length != 0)
 }

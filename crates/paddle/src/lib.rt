@@ -50,15 +50,11 @@ pub struct Turn {
 
 impl Gesture {
     // Whether there is no gesture.
+    #[tactic(auto, unfolding(crate::specs::Code::completes_nothing))]
     pub fn none(self) -> bool
         ensures { result ≡ completes_nothing self }
     {
-        match self {
-            Gesture::Nothing => true,
-            Gesture::Taps(_) => false,
-            Gesture::Hold => false,
-            Gesture::Release => false,
-        }
+        matches!(self, Gesture::Nothing)
     }
 }
 
@@ -76,6 +72,7 @@ impl Paddle {
         }
     }
 
+    #[tactic(auto, unfolding(crate::specs::Paddle::down))]
     pub fn down(self) -> bool
         ensures { result ≡ down self }
     {
@@ -83,6 +80,7 @@ impl Paddle {
     }
 
     // A press that overlaps another one of the same paddle is part of it.
+    #[tactic(auto, unfolding(crate::specs::Paddle::pressed))]
     pub fn press(self, contact: Contact) -> Paddle
         ensures { result ≡ pressed contact self }
     {
@@ -92,6 +90,7 @@ impl Paddle {
     }
 
     // A tap is counted, and Release given, in the edge that lets the paddle go.
+    #[tactic(auto, unfolding(crate::specs::Paddle::released, crate::specs::Paddle::gesture_up, crate::specs::Paddle::goes_up))]
     pub fn release(self, contact: Contact) -> Turn
         ensures { result ≡ turn (released contact self) (gesture_up contact self) }
     {
@@ -105,6 +104,7 @@ impl Paddle {
         }
     }
 
+    #[tactic(auto, unfolding(crate::specs::Paddle::with_contact))]
     fn moved(mut self, contact: Contact, down: bool) -> Paddle
         ensures { result ≡ with_contact contact down self }
     {
@@ -121,6 +121,7 @@ impl Paddle {
     }
 
     // The ticks left before Hold once a contact is pressed.
+    #[tactic(auto, unfolding(crate::specs::Paddle::hold_from))]
     fn begun(self) -> u8
         ensures { result ≡ hold_from self }
     {
@@ -131,6 +132,7 @@ impl Paddle {
     }
 
     // The press that ends here was a Hold, a tap, or too short.
+    #[tactic(auto, unfolding(crate::specs::Paddle::ended, crate::specs::Paddle::ending))]
     fn ended(self) -> Turn
         ensures { result ≡ turn (ended self) (ending self) }
     {
@@ -154,6 +156,7 @@ impl Paddle {
     }
 
     // A tap is counted, and the gap begins again.
+    #[tactic(auto, unfolding(crate::specs::Paddle::tapped))]
     fn tapped(mut self) -> Paddle
         ensures { result ≡ tapped self }
     {
@@ -163,6 +166,8 @@ impl Paddle {
     }
 }
 
+// Stays as it is: `min` would take more than eleven taps down to eleven, and one_tap_more leaves them.
+#[tactic(auto, unfolding(crate::specs::Paddle::one_tap_more))]
 fn counted(taps: u8) -> u8
     ensures { result ≡ one_tap_more taps }
 {

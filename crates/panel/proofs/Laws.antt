@@ -6,10 +6,11 @@ use mathlib.Core.Path.{◌≡◌, refl, sym, ap, ◌∙◌}
 use Prim.Native.Nat.{ℕ, zero, suc, ◌+◌, ◌/◌, ◌%◌, ◌≤◌, ◌<◌}
 use native.Mathlib.Nat.{div-div-eq-div-mul}
 use native.Mathlib.Omega.{arith}
+use lib.Bits.{and_mask, bit_and}
 use lib.Dec.{eqb, leb}
 use lib.ListN.{length, get_or, set, length-set, length-map, replicate}
 use lib.Seq.{set-get_or, get_or-set_same}
-use borrow.Author.Tests.{eqb-true}
+use borrow.Author.Tests.{eq-eqb, ne_eqb, eqb-true}
 use Rattle.words.specs.Words.{kept_at}
 use Rattle.words.proofs.Laws.{neither, kept_back, kept_same, other_place}
 use Rattle.timers.specs.Timers.{less}
@@ -71,7 +72,7 @@ bytes_apart i p l place contacts taps hold gap =
       other_place l (contacts_index i) _ place contacts,
     )
 
-paddle_apart : (i j : ℕ) (p : Paddle) (l : List ℕ) → (i ≡ j → ⊥) → i < paddle_count → j < paddle_count → paddle_from j (kept_paddle i p l) ≡ paddle_from j l
+pub paddle_apart : (i j : ℕ) (p : Paddle) (l : List ℕ) → (i ≡ j → ⊥) → i < paddle_count → j < paddle_count → paddle_from j (kept_paddle i p l) ≡ paddle_from j l
 unfolding paddle_from
 paddle_apart i j p l other h k =
     rw (
@@ -81,7 +82,7 @@ paddle_apart i j p l other h k =
       bytes_apart i p l (gap_index j) (λ e. omega arith) (λ e. omega arith) (λ e. omega arith) (λ e. other (omega arith)),
     )
 
-pub from_apart : (i n j : ℕ) (p : Paddle) (l : List ℕ) → j < i → i + n ≤ paddle_count → paddles_from i n (kept_paddle j p l) ≡ paddles_from i n l
+from_apart : (i n j : ℕ) (p : Paddle) (l : List ℕ) → j < i → i + n ≤ paddle_count → paddles_from i n (kept_paddle j p l) ≡ paddles_from i n l
 unfolding paddles_from
 from_apart i zero j p l low fits = refl
 from_apart i (suc n) j p l low fits =
@@ -156,7 +157,7 @@ pub paddles_back : (l : List ℕ) (ps : List Paddle) → length l ≡ byte_count
 paddles_back l ps long all = ap (λ (n : ℕ). paddles_from 0 n (kept_paddles ps l)) (sym all) ∙ from_back 0 ps l long (omega arith)
 
 -- How many paddles there are.
-from_count : (i n : ℕ) (l : List ℕ) → length (paddles_from i n l) ≡ n
+pub from_count : (i n : ℕ) (l : List ℕ) → length (paddles_from i n l) ≡ n
 unfolding paddles_from
 from_count i zero l = refl
 from_count i (suc n) l = ap suc (from_count (suc i) n l)
@@ -216,17 +217,13 @@ unfolding paddle_of
 paddle_low contact = omega arith
 
 pub press_kept :
-    (contact : ℕ) (l : List ℕ) (i : ℕ) (p : Paddle) (kind : Contact) (q : Paddle) (l' : List ℕ)
-    → i ≡ paddle_of contact
-    → p ≡ paddle_from i l
-    → kind ≡ kind_of contact
-    → q ≡ pressed kind p
-    → l' ≡ kept_paddle i q l
+    (contact : ℕ) (l l' : List ℕ)
+    → l' ≡ kept_paddle (paddle_of contact) (pressed (kind_of contact) (paddle_from (paddle_of contact) l)) l
     → l' ≡ kept_paddles (pressed_at contact (paddles_of l)) l
 unfolding pressed_at
-press_kept contact l i p kind q l' place read which after kept =
-    rw (paddle_at_lem (paddle_of contact) l (paddle_low contact), one_kept (paddle_of contact) (pressed (kind_of contact) (paddle_from (paddle_of contact) l)) l (paddle_low contact))
-    (kept ∙ rw (after, which, read, place))
+press_kept contact l l' kept =
+    let i = paddle_of contact in
+    kept ∙ rw (paddle_at_lem i l (paddle_low contact), one_kept i (pressed (kind_of contact) (paddle_from i l)) l (paddle_low contact))
 
 pub release_kept :
     (contact : ℕ) (l : List ℕ) (i : ℕ) (p : Paddle) (kind : Contact) (t : Turn) (l' : List ℕ)
@@ -391,26 +388,34 @@ ticks_at i l g l₁ l' low is used ran =
     record { completed = is; paddles = ran ∙ ap (ran_at i) (used ∙ rw is) ∙ ran_used i l _ low refl }
 
 -- The gesture, by the bytes.
-pub gesture_none : (i : ℕ) (l : List ℕ) (loud : Bool) → loud ≡ loud_at i l → loud ≡ false → Nothing ≡ gesture (paddle_from i l)
-gesture_none i l loud told no' = sym (nothing _ (quiet_at i l (sym told ∙ no')))
+pub gesture_none : (i : ℕ) (l : List ℕ) → loud_at i l ≡ false → Nothing ≡ gesture (paddle_from i l)
+gesture_none i l quiet' = sym (nothing _ (quiet_at i l quiet'))
 
-pub gesture_loud :
-    (i : ℕ) (l : List ℕ) (loud up : Bool) → loud ≡ loud_at i l → loud ≡ true → up ≡ eqb (get_or l (contacts_index i) 0 % 4) 0
-    → gesture (paddle_from i l) ≡ (if up then Taps (get_or l (taps_index i) 0) else Hold)
+gesture_loud :
+    (i : ℕ) (l : List ℕ) (up : Bool) → loud_at i l ≡ true → eqb (get_or l (contacts_index i) 0 % 4) 0 ≡ up
+    → (if up then Taps (get_or l (taps_index i) 0) else Hold) ≡ gesture (paddle_from i l)
 unfolding loud_at paddle_from down ends completed closing gesture
-gesture_loud i l loud up told yes' is =
+gesture_loud i l up loud is =
     let taps = get_or l (taps_index i) 0 in
-    rw (down_contacts (get_or l (contacts_index i) 0), is)
-    (go taps (eqb (get_or l (contacts_index i) 0 % 4) 0) (eqb (get_or l (hold_index i) 0) 1) (leb (get_or l (gap_index i) 0) 1) (eqb taps 0) (sym told ∙ yes'))
+    rw (← is, down_contacts (get_or l (contacts_index i) 0))
+    (go taps (eqb (get_or l (contacts_index i) 0 % 4) 0) (eqb (get_or l (hold_index i) 0) 1) (leb (get_or l (gap_index i) 0) 1) (eqb taps 0) loud)
   where
     go : (taps : ℕ) (up held closed none : Bool) → (if up then closed && not none else held) ≡ true
-        → (if (if not up then held else closed) then (if not up then Hold else if none then Nothing else Taps taps) else Nothing)
-        ≡ (if up then Taps taps else Hold)
+        → (if up then Taps taps else Hold)
+        ≡ (if (if not up then held else closed) then (if not up then Hold else if none then Nothing else Taps taps) else Nothing)
     go taps true held true true h = absurd (true≢false (sym h))
     go taps true held true false h = refl
     go taps true held false none h = absurd (true≢false (sym h))
     go taps false true closed none h = refl
     go taps false false closed none h = absurd (true≢false (sym h))
+
+pub gesture_taps :
+    (i : ℕ) (l : List ℕ) → loud_at i l ≡ true → bit_and (get_or l (contacts_index i) 0) 3 ≡ 0
+    → Taps (get_or l (taps_index i) 0) ≡ gesture (paddle_from i l)
+gesture_taps i l loud up = gesture_loud i l true loud (eq-eqb _ _ (sym (and_mask _ 2) ∙ up))
+
+pub gesture_hold : (i : ℕ) (l : List ℕ) → loud_at i l ≡ true → (bit_and (get_or l (contacts_index i) 0) 3 ≡ 0 → ⊥) → Hold ≡ gesture (paddle_from i l)
+gesture_hold i l loud held = gesture_loud i l false loud (ne_eqb _ _ (λ e. held (and_mask _ 2 ∙ e)))
 
 loud_apart : (i n j : ℕ) (p : Paddle) (l : List ℕ) → j < i → i + n ≤ paddle_count → loud_from i n (kept_paddle j p l) ≡ loud_from i n l
 unfolding loud_from

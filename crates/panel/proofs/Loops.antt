@@ -1,127 +1,97 @@
--- The loops over the paddles: what a turn adds to the bytes and the gestures behind it, told by what is left before it.
-use mathlib.Core.Bool.{Bool, false, not, ◌||◌, or_assoc, or-false}
-use mathlib.Core.List.{List, [], ◌∷◌, ◌++◌, map, append_assoc, append-nil}
-use mathlib.Core.Path.{◌≡◌, sym, ap, ◌∙◌}
-use Prim.Native.Nat.{ℕ, suc, ◌+◌, ◌<◌}
+-- The loops over the paddles: what a paddle more adds to the first i of them.
+use mathlib.Core.Bool.{Bool, ◌||◌, or_assoc, or-false}
+use mathlib.Core.List.{List, [], ◌∷◌, ◌++◌, map}
+use mathlib.Core.Path.{◌≡◌, refl, sym, ap, ◌∙◌}
+use Prim.Native.Nat.{ℕ, zero, suc, ◌+◌, ◌<◌, ◌≤◌}
+use native.Mathlib.Numerals.{add-one}
 use native.Mathlib.Omega.{arith}
-use lib.ListN.{length, set, take, length-set}
+use lib.ListN.{length, set, take, length-set, length-map}
 use lib.Seq.{take_all, take-suc-set}
+use Rattle.std.proofs.lemmas.List.{map-append}
 use Rattle.paddle.specs.Paddle.{fresh_paddle, gesture, next_paddle}
 use Rattle.paddle.specs.declared.Gesture.{Gesture}
 use Rattle.paddle.specs.declared.Paddle.{Paddle}
 use Rattle.model.specs.Model.{paddle_count}
-use Rattle.panel.specs.Panel.{paddle_from, paddles_from, paddles_of, kept_paddle, kept_from, kept_paddles, fresh_from, fresh_paddles}
-use Rattle.panel.specs.Code.{Ticks, TicksAt, loud_at, loud_from, quiet_bytes, ran_at, ran_from, ran_bytes}
-use Rattle.panel.proofs.Laws.{from_apart}
+use Rattle.panel.specs.Panel.{paddle_from, paddles_from, kept_paddle, kept_from, fresh_from}
+use Rattle.panel.specs.Code.{Ticks, TicksAt, loud_at, loud_from, ran_at, ran_from}
+use Rattle.panel.proofs.Laws.{from_count, paddle_apart}
 
--- Whether one of the paddles before number i is loud.
-abbrev pub Louder : List ℕ → ℕ → Bool → Type 0
-Louder l i loud = (n : ℕ) → i + n ≡ paddle_count → (loud || loud_from i n l) ≡ loud_from 0 paddle_count l
-
-pub louder_begins : (l : List ℕ) → Louder l 0 false
-louder_begins l n e = ap (λ (k : ℕ). loud_from 0 k l) (omega arith)
-
-pub louder_again : (l : List ℕ) (i : ℕ) (loud now : Bool) → Louder l i loud → now ≡ loud_at i l → Louder l (i + 1) (loud || now)
+loud_snoc : (k i j : ℕ) (l : List ℕ) → j ≡ k + i → loud_from k (suc i) l ≡ (loud_from k i l || loud_at j l)
 unfolding loud_from
-louder_again l i loud now h e n k =
-    let next : i + 1 ≡ suc i = omega arith in
-    ap (λ (b : Bool). (loud || b) || loud_from (i + 1) n l) e
-    ∙ ap (λ (j : ℕ). (loud || loud_at i l) || loud_from j n l) next
-    ∙ or_assoc loud (loud_at i l) (loud_from (suc i) n l)
-    ∙ h (suc n) (omega arith)
+loud_snoc k zero j l e = or-false (loud_at k l) ∙ ap (λ (n : ℕ). loud_at n l) (omega arith)
+loud_snoc k (suc i) j l e =
+    ap (λ (b : Bool). loud_at k l || b) (loud_snoc (suc k) i j l (omega arith))
+    ∙ sym (or_assoc (loud_at k l) (loud_from (suc k) i l) (loud_at j l))
 
-pub louder_ends : (l : List ℕ) (i : ℕ) (loud : Bool) → Louder l i loud → i ≡ paddle_count → not loud ≡ quiet_bytes l
-unfolding loud_from quiet_bytes
-louder_ends l i loud h e = ap not (sym (or-false loud) ∙ h 0 (omega arith))
+pub loud_more : (i : ℕ) (l : List ℕ) → loud_from 0 (i + 1) l ≡ (loud_from 0 i l || loud_at i l)
+loud_more i l = rw add-one (loud_snoc 0 i i l (omega arith))
 
--- The paddles before number i are up.
-abbrev pub Rising : List ℕ → ℕ → List ℕ → Type 0
-Rising start i l = (n : ℕ) → i + n ≡ paddle_count → kept_from i (fresh_from n) l ≡ kept_paddles fresh_paddles start
-
-pub rising_begins : (l : List ℕ) → Rising l 0 l
-rising_begins l n e = ap (λ (k : ℕ). kept_from 0 (fresh_from k) l) (omega arith)
-
-pub rising_again :
-    (start : List ℕ) (i : ℕ) (l : List ℕ) (p : Paddle) (l' : List ℕ)
-    → Rising start i l → p ≡ fresh_paddle → l' ≡ kept_paddle i p l → Rising start (i + 1) l'
-unfolding kept_from fresh_from
-rising_again start i l p l' h up kept n k =
-    let next : i + 1 ≡ suc i = omega arith in
-    ap (λ (m : List ℕ). kept_from (i + 1) (fresh_from n) m) (kept ∙ ap (λ (q : Paddle). kept_paddle i q l) up)
-    ∙ ap (λ (j : ℕ). kept_from j (fresh_from n) (kept_paddle i fresh_paddle l)) next
-    ∙ h (suc n) (omega arith)
-
-pub rising_ends : (start : List ℕ) (i : ℕ) (l : List ℕ) → Rising start i l → i ≡ paddle_count → l ≡ kept_paddles fresh_paddles start
-unfolding kept_from fresh_from
-rising_ends start i l h e = h 0 (omega arith)
-
--- The timers of the paddles before number i have run.
-abbrev pub Running : List ℕ → ℕ → List ℕ → Type 0
-Running start i l = (n : ℕ) → i + n ≡ paddle_count → ran_from i n l ≡ ran_from 0 paddle_count start
-
-pub running_begins : (l : List ℕ) → Running l 0 l
-running_begins l n e = ap (λ (k : ℕ). ran_from 0 k l) (omega arith)
-
-pub running_again : (start : List ℕ) (i : ℕ) (l l' : List ℕ) → Running start i l → l' ≡ ran_at i l → Running start (i + 1) l'
+ran_snoc : (k i j : ℕ) (l : List ℕ) → j ≡ k + i → ran_from k (suc i) l ≡ ran_at j (ran_from k i l)
 unfolding ran_from
-running_again start i l l' h ran n k =
-    let next : i + 1 ≡ suc i = omega arith in
-    ap (λ (m : List ℕ). ran_from (i + 1) n m) ran
-    ∙ ap (λ (j : ℕ). ran_from j n (ran_at i l)) next
-    ∙ h (suc n) (omega arith)
+ran_snoc k zero j l e = ap (λ (n : ℕ). ran_at n l) (omega arith)
+ran_snoc k (suc i) j l e = ran_snoc (suc k) i j (ran_at k l) (omega arith)
 
-pub running_ends : (start : List ℕ) (i : ℕ) (l : List ℕ) → Running start i l → i ≡ paddle_count → l ≡ ran_bytes start
-unfolding ran_from ran_bytes
-running_ends start i l h e = h 0 (omega arith)
+pub ran_more : (i : ℕ) (l : List ℕ) → ran_from 0 (i + 1) l ≡ ran_at i (ran_from 0 i l)
+ran_more i l = rw add-one (ran_snoc 0 i i l (omega arith))
 
--- The paddles before number i have ticked, and their gestures are noted.
+risen_snoc : (k i j : ℕ) (l : List ℕ) → j ≡ k + i → kept_from k (fresh_from (suc i)) l ≡ kept_paddle j fresh_paddle (kept_from k (fresh_from i) l)
+unfolding kept_from fresh_from
+risen_snoc k zero j l e = ap (λ (n : ℕ). kept_paddle n fresh_paddle l) (omega arith)
+risen_snoc k (suc i) j l e = risen_snoc (suc k) i j (kept_paddle k fresh_paddle l) (omega arith)
+
+pub risen_more : (i : ℕ) (l : List ℕ) → kept_from 0 (fresh_from (i + 1)) l ≡ kept_paddle i fresh_paddle (kept_from 0 (fresh_from i) l)
+risen_more i l = rw add-one (risen_snoc 0 i i l (omega arith))
+
+from_snoc : (k i j : ℕ) (l : List ℕ) → j ≡ k + i → paddles_from k (suc i) l ≡ paddles_from k i l ++ (paddle_from j l ∷ [])
+unfolding paddles_from
+from_snoc k zero j l e = ap (λ (n : ℕ). paddle_from n l ∷ []) (omega arith)
+from_snoc k (suc i) j l e = ap (λ (ps : List Paddle). paddle_from k l ∷ ps) (from_snoc (suc k) i j l (omega arith))
+
+kept_snoc : (k j : ℕ) (ps : List Paddle) (p : Paddle) (l : List ℕ) → j ≡ k + length ps → kept_from k (ps ++ (p ∷ [])) l ≡ kept_paddle j p (kept_from k ps l)
+unfolding kept_from
+kept_snoc k j [] p l e = ap (λ (n : ℕ). kept_paddle n p l) (omega arith)
+kept_snoc k j (q ∷ ps) p l e = kept_snoc (suc k) j ps p (kept_paddle k q l) (omega arith)
+
+kept_apart : (k i : ℕ) (ps : List Paddle) (l : List ℕ) → k + length ps ≤ i → i < paddle_count → paddle_from i (kept_from k ps l) ≡ paddle_from i l
+unfolding kept_from
+kept_apart k i [] l low fits = refl
+kept_apart k i (p ∷ ps) l low fits =
+    kept_apart (suc k) i ps (kept_paddle k p l) (omega arith) fits ∙ paddle_apart k i p l (λ e. omega arith) (omega arith) fits
+
+-- The first i paddles have ticked, and their gestures are noted.
 pub record Ticking (start : List ℕ) (i : ℕ) (l : List ℕ) (gs : List Gesture) : Type 0 where
   pub long : length gs ≡ paddle_count
-  pub paddles : (n : ℕ) → i + n ≡ paddle_count → kept_from i (map next_paddle (paddles_from i n l)) l ≡ kept_paddles (map next_paddle (paddles_of start)) start
-  pub gestures : (n : ℕ) → i + n ≡ paddle_count → take i gs ++ map gesture (paddles_from i n l) ≡ map gesture (paddles_of start)
+  pub completed : take i gs ≡ map gesture (paddles_from 0 i start)
+  pub paddles : l ≡ kept_from 0 (map next_paddle (paddles_from 0 i start)) start
 
 pub ticking_begins : (l : List ℕ) (gs : List Gesture) → length gs ≡ paddle_count → Ticking l 0 l gs
-ticking_begins l gs all =
-    record {
-      long = all;
-      paddles = λ n e. let whole : n ≡ paddle_count = omega arith in ap (λ (k : ℕ). kept_from 0 (map next_paddle (paddles_from 0 k l)) l) whole;
-      gestures = λ n e. let whole : n ≡ paddle_count = omega arith in ap (λ (k : ℕ). map gesture (paddles_from 0 k l)) whole;
-    }
-
--- One turn, of a paddle as it is read.
-ticking_next :
-    (start : List ℕ) (i : ℕ) (l : List ℕ) (gs : List Gesture)
-    → Ticking start i l gs
-    → i < paddle_count
-    → Ticking start (suc i) (kept_paddle i (next_paddle (paddle_from i l)) l) (set gs i (gesture (paddle_from i l)))
 unfolding paddles_from kept_from
-ticking_next start i l gs h low =
-    let p = paddle_from i l in
-    let m = kept_paddle i (next_paddle p) l in
+ticking_begins l gs long = record { long = long; completed = refl; paddles = refl }
+
+ticking_next :
+    (start : List ℕ) (i : ℕ) (l : List ℕ) (gs : List Gesture) (g : Gesture) (l' : List ℕ)
+    → Ticking start i l gs → i < paddle_count → TicksAt i l g l' → Ticking start (suc i) l' (set gs i g)
+ticking_next start i l gs g l' h low ticks =
+    let ps = map next_paddle (paddles_from 0 i start) in
+    let p = next_paddle (paddle_from i start) in
+    let many : length ps ≡ i = length-map (paddles_from 0 i start) next_paddle ∙ from_count 0 i start in
+    let same : paddle_from i l ≡ paddle_from i start = ap (paddle_from i) h.paddles ∙ kept_apart 0 i ps start (omega arith) low in
+    let more = from_snoc 0 i i start (omega arith) in
     let within : i < length gs = rw h.long low in
     record {
-      long = length-set gs i (gesture p) ∙ h.long;
-      paddles = λ n e.
-          ap (λ (ps : List Paddle). kept_from (suc i) (map next_paddle ps) m) (from_apart (suc i) n i (next_paddle p) l (omega arith) (omega arith))
-          ∙ h.paddles (suc n) (omega arith);
-      gestures = λ n e.
-          ap (λ (ps : List Paddle). take (suc i) (set gs i (gesture p)) ++ map gesture ps) (from_apart (suc i) n i (next_paddle p) l (omega arith) (omega arith))
-          ∙ ap (λ (xs : List Gesture). xs ++ map gesture (paddles_from (suc i) n l)) (take-suc-set gs i (gesture p) within)
-          ∙ append_assoc (take i gs) (gesture p ∷ []) (map gesture (paddles_from (suc i) n l))
-          ∙ h.gestures (suc n) (omega arith);
+      long = length-set gs i g ∙ h.long;
+      completed = rw (take-suc-set gs i g within, h.completed, ticks.completed, same, more, map-append);
+      paddles = rw (ticks.paddles, same, more, map-append, kept_snoc 0 i ps p start (omega arith), h.paddles);
     }
 
 pub ticking_again :
     (start : List ℕ) (i : ℕ) (l : List ℕ) (gs : List Gesture) (g : Gesture) (l' : List ℕ)
     → Ticking start i l gs → i < paddle_count → TicksAt i l g l' → Ticking start (i + 1) l' (set gs i g)
-ticking_again start i l gs g l' h low ticks =
-    let next : i + 1 ≡ suc i = omega arith in
-    rw (next, ticks.paddles, ticks.completed) (ticking_next start i l gs h low)
+ticking_again start i l gs g l' h low ticks = rw add-one (ticking_next start i l gs g l' h low ticks)
 
-pub ticking_ends : (start : List ℕ) (i : ℕ) (l : List ℕ) (gs : List Gesture) → Ticking start i l gs → i ≡ paddle_count → Ticks start gs l
-unfolding paddles_from kept_from
-ticking_ends start i l gs h e =
+pub ticking_ends : (start : List ℕ) (l : List ℕ) (gs : List Gesture) → Ticking start paddle_count l gs → Ticks start gs l
+ticking_ends start l gs h =
     record {
-      completed = sym (take_all i gs (rw (h.long, e) (omega arith))) ∙ sym (append-nil (take i gs)) ∙ h.gestures 0 (omega arith);
-      paddles = h.paddles 0 (omega arith);
+      completed = sym (take_all paddle_count gs (rw h.long (omega arith))) ∙ h.completed;
+      paddles = h.paddles;
     }

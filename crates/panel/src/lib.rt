@@ -26,17 +26,17 @@ const HOLD: usize = 2 * PADDLES;
 const GAP: usize = 3 * PADDLES;
 
 // All of them up, and nothing counted.
+#[tactic(auto, using(crate::proofs::Loops::risen_more), unfolding(crate::specs::Panel::kept_from, crate::specs::Panel::fresh_from))]
 pub fn raise(paddles: &mut [u8; BYTES])
     ensures { paddles.new ≡ kept_paddles fresh_paddles paddles.old }
 {
-    let mut i = 0;
-    while i < PADDLES {
+    for i in 0..PADDLES {
         keep_paddle(i, Paddle::up(), paddles);
-        i += 1;
     }
 }
 
 // A press edge of a contact.
+#[tactic(auto, using(crate::proofs::Laws::paddle_low, crate::proofs::Laws::press_kept))]
 pub fn press(contact: u8, paddles: &mut [u8; BYTES])
     ensures { paddles.new ≡ kept_paddles (pressed_at contact (paddles_of paddles.old)) paddles.old }
 {
@@ -46,31 +46,31 @@ pub fn press(contact: u8, paddles: &mut [u8; BYTES])
 }
 
 // A release edge of a contact, and the gesture that it completes.
+#[tactic(auto, using(crate::proofs::Laws::paddle_low))]
 pub fn release(contact: u8, paddles: &mut [u8; BYTES]) -> Gesture
     ensures { Lifts contact paddles.old result paddles.new }
 {
     let i = paddle_of(contact);
     let turn = paddle_at(i, paddles).release(kind_of(contact));
-    let gesture = turn.gesture;
     keep_paddle(i, turn.paddle, paddles);
-    gesture
+    turn.gesture
 }
 
 // Whether the next tick completes no gesture.
+#[tactic(auto, using(crate::proofs::Loops::loud_more), unfolding(crate::specs::Code::loud_from, crate::specs::Code::quiet_bytes))]
 pub fn quiet(paddles: &[u8; BYTES]) -> bool
     ensures { result ≡ quiet_bytes paddles.now }
 {
     let mut loud = false;
-    let mut i = 0;
-    while i < PADDLES {
-        loud = loud | loud_at(i, paddles);
-        i += 1;
+    for i in 0..PADDLES {
+        loud |= loud_at(i, paddles);
     }
     !loud
 }
 
 // Whether the next tick completes a gesture of the paddle: Hold while it is down, or up the close of a run. All four bytes are read
 // before the test.
+#[tactic(auto, unfolding(crate::specs::Code::loud_at))]
 fn loud_at(i: usize, paddles: &[u8; BYTES]) -> bool
     requires { i < paddle_count }
     ensures { result ≡ loud_at i paddles.now }
@@ -86,16 +86,16 @@ fn loud_at(i: usize, paddles: &[u8; BYTES]) -> bool
 }
 
 // A tick that completes no gesture: the timers run.
+#[tactic(auto, using(crate::proofs::Loops::ran_more), unfolding(crate::specs::Code::ran_from, crate::specs::Code::ran_bytes))]
 pub fn run(paddles: &mut [u8; BYTES])
     ensures { paddles.new ≡ ran_bytes paddles.old }
 {
-    let mut i = 0;
-    while i < PADDLES {
+    for i in 0..PADDLES {
         run_at(i, paddles);
-        i += 1;
     }
 }
 
+#[tactic(auto, unfolding(crate::specs::Code::ran_at))]
 fn run_at(i: usize, paddles: &mut [u8; BYTES])
     requires { i < paddle_count }
     ensures { paddles.new ≡ ran_at i paddles.old }
@@ -107,6 +107,7 @@ fn run_at(i: usize, paddles: &mut [u8; BYTES])
 }
 
 // Hold comes nearer only while the paddle is down.
+#[tactic(auto, unfolding(crate::specs::Code::left_by))]
 fn left(contacts: u8, hold: u8) -> u8
     ensures { result ≡ left_by contacts hold }
 {
@@ -117,19 +118,18 @@ fn left(contacts: u8, hold: u8) -> u8
 }
 
 // Any tick, and the gesture of each paddle.
+#[tactic(auto, using(crate::proofs::Loops::ticking_ends), unfolding(crate::specs::Panel::paddles_from, crate::specs::Panel::kept_from))]
 pub fn tick(paddles: &mut [u8; BYTES]) -> [Gesture; PADDLES]
     ensures { Ticks paddles.old result paddles.new }
 {
     let mut gestures = [Gesture::Nothing; PADDLES];
-    let mut i = 0;
-    while i < PADDLES {
-        let gesture = tick_at(i, paddles);
-        gestures[i] = gesture;
-        i += 1;
+    for i in 0..PADDLES {
+        gestures[i] = tick_at(i, paddles);
     }
     gestures
 }
 
+#[tactic(auto, using(crate::proofs::Laws::ticks_at))]
 fn tick_at(i: usize, paddles: &mut [u8; BYTES]) -> Gesture
     requires { i < paddle_count }
     ensures { TicksAt i paddles.old result paddles.new }
@@ -141,6 +141,7 @@ fn tick_at(i: usize, paddles: &mut [u8; BYTES]) -> Gesture
 }
 
 // A gesture uses up the taps.
+#[tactic(auto, unfolding(crate::specs::Code::used_up))]
 fn use_up(i: usize, gesture: Gesture, paddles: &mut [u8; BYTES])
     requires { i < paddle_count }
     ensures { paddles.new ≡ used_up i gesture paddles.old }
@@ -152,6 +153,7 @@ fn use_up(i: usize, gesture: Gesture, paddles: &mut [u8; BYTES])
 }
 
 // The gesture that the next tick completes.
+#[tactic(auto, using(crate::proofs::Laws::gesture_none, crate::proofs::Laws::gesture_taps, crate::proofs::Laws::gesture_hold))]
 fn gesture_at(i: usize, paddles: &[u8; BYTES]) -> Gesture
     requires { i < paddle_count }
     ensures { result ≡ gesture (paddle_from i paddles.now) }
@@ -165,6 +167,7 @@ fn gesture_at(i: usize, paddles: &[u8; BYTES]) -> Gesture
     Gesture::Hold
 }
 
+#[tactic(auto, unfolding(crate::specs::Panel::paddle_from))]
 fn paddle_at(i: usize, paddles: &[u8; BYTES]) -> Paddle
     requires { i < paddle_count }
     ensures { result ≡ paddle_from i paddles.now }
@@ -179,6 +182,7 @@ fn paddle_at(i: usize, paddles: &[u8; BYTES]) -> Paddle
     }
 }
 
+#[tactic(auto, unfolding(crate::specs::Panel::kept_paddle))]
 fn keep_paddle(i: usize, paddle: Paddle, paddles: &mut [u8; BYTES])
     requires { i < paddle_count }
     ensures { paddles.new ≡ kept_paddle i paddle paddles.old }
@@ -190,6 +194,7 @@ fn keep_paddle(i: usize, paddle: Paddle, paddles: &mut [u8; BYTES])
 }
 
 // Contacts with higher bits stay as they are while they stand for the same.
+#[tactic(auto, unfolding(crate::specs::Panel::kept_contacts, words::specs::Words::kept_at))]
 fn keep_contacts(i: usize, new: u8, paddles: &mut [u8; BYTES])
     requires { i < paddle_count }
     ensures { paddles.new ≡ kept_contacts i new paddles.old }
@@ -201,6 +206,7 @@ fn keep_contacts(i: usize, new: u8, paddles: &mut [u8; BYTES])
 }
 
 // Whether the local contact is down.
+#[tactic(auto, unfolding(crate::specs::Panel::local_in))]
 fn local_in(contacts: u8) -> bool
     ensures { result ≡ local_in contacts }
 {
@@ -208,12 +214,14 @@ fn local_in(contacts: u8) -> bool
 }
 
 // Whether the slave contact is.
+#[tactic(auto, unfolding(crate::specs::Panel::slave_in))]
 fn slave_in(contacts: u8) -> bool
     ensures { result ≡ slave_in contacts }
 {
     contacts >> 1 & 1 == 1
 }
 
+#[tactic(auto, unfolding(crate::specs::Panel::contacts_number))]
 fn contacts_number(local: bool, slave: bool) -> u8
     ensures { result ≡ contacts_number local slave }
 {

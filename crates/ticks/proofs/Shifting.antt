@@ -1,9 +1,9 @@
 -- A tick whose one gesture is a run of taps that moves the mode: what the paddles' turns come to.
-use Rattle.std.specs.Prelude.{◌≡◌, ℕ, ◌+◌, Bool, true, false, ◌||◌, eqb, List, [], ◌∷◌}
-use mathlib.Core.Path.{refl, sym, ap, ◌∙◌}
-use mathlib.Core.Bool.{true≢false}
+use Rattle.std.specs.Prelude.{◌≡◌, ℕ, ◌+◌, Bool, true, false, ◌||◌, eqb, List, [], ◌∷◌, Some, None}
+use mathlib.Core.Path.{refl, ap, ◌∙◌}
 use mathlib.Core.List.{append-nil}
 use borrow.Author.Tests.{eqb-true}
+use Rattle.std.proofs.lemmas.Option.{none-some}
 use Rattle.words.proofs.Laws.{both}
 use Rattle.units.specs.declared.Percent.{Percent}
 use Rattle.vault.specs.Job.{followed}
@@ -22,66 +22,34 @@ use Rattle.post.specs.Post.{bytes_of, enveloped}
 use Rattle.turns.specs.Turns.{Moment, after, moment, turned}
 use Rattle.turns.specs.Code.{turns_by}
 use Rattle.turns.proofs.Laws.{turned_nothing}
-use Rattle.moves.specs.Code.{alongside, lone, one_more, shifts, taps_of, with}
-use Rattle.moves.specs.declared.shift.Alone.{Alone}
-use Rattle.moves.specs.declared.shift.Alone.TheVariants.{Nobody, One, More}
+use Rattle.moves.specs.Code.{alongside, lone, shifts}
 
--- What else the paddles complete: more stays more, and one run of taps is alone where nothing comes after it.
-more_stays : (gs : List Gesture) → alongside More gs ≡ More
-unfolding alongside with one_more
-more_stays [] = refl
-more_stays (Nothing ∷ gs) = more_stays gs
-more_stays (Taps n ∷ gs) = more_stays gs
-more_stays (Hold ∷ gs) = more_stays gs
-more_stays (Release ∷ gs) = more_stays gs
-
--- One or not, and how many taps.
-abbrev is_one : Alone → Bool
-is_one Nobody = false
-is_one (One n) = true
-is_one More = false
-
-not_more : (gs : List Gesture) {X : Type 0} → is_one (alongside More gs) ≡ true → X
-not_more gs h = absurd (true≢false (sym (ap is_one (sym (more_stays gs)) ∙ h)))
-
+-- Where one run of taps is all that the paddles complete, their turns are the turn of that run.
 still_one :
-    (gs : List Gesture) (n : ℕ) → is_one (alongside (One n) gs) ≡ true
-    → (taps_of (alongside (One n) gs) ≡ n) × ((i : ℕ) (m : Moment) → turns_by i gs m ≡ m)
-unfolding alongside with one_more taps_of turns_by
-still_one [] n h = (refl, λ i m. refl)
-still_one (Nothing ∷ gs) n h =
-    let rest = still_one gs n h in
+    (gs : List Gesture) (n taps : ℕ) → alongside (Some n) gs ≡ Some taps
+    → (n ≡ taps) × ((i : ℕ) (m : Moment) → turns_by i gs m ≡ m)
+unfolding alongside turns_by
+still_one [] n taps h = (cc, λ i m. refl)
+still_one (Nothing ∷ gs) n taps h =
+    let rest = still_one gs n taps h in
     (rest.0, λ i m. ap (turns_by (i + 1) gs) (turned_nothing i m) ∙ rest.1 (i + 1) m)
-still_one (Taps k ∷ gs) n h = not_more gs h
-still_one (Hold ∷ gs) n h = not_more gs h
-still_one (Release ∷ gs) n h = not_more gs h
+still_one (Taps k ∷ gs) n taps h = absurd (none-some taps h)
+still_one (Hold ∷ gs) n taps h = absurd (none-some taps h)
+still_one (Release ∷ gs) n taps h = absurd (none-some taps h)
 
 one_turned :
-    (gs : List Gesture) (i : ℕ) → is_one (alongside Nobody gs) ≡ true
-    → (j : ℕ) × ((m : Moment) → turns_by i gs m ≡ turned j (Taps (taps_of (alongside Nobody gs))) m)
-unfolding alongside with one_more taps_of turns_by
-one_turned [] i h = absurd (true≢false (sym h))
-one_turned (Nothing ∷ gs) i h =
-    let rest = one_turned gs (i + 1) h in
+    (gs : List Gesture) (i taps : ℕ) → alongside None gs ≡ Some taps
+    → (j : ℕ) × ((m : Moment) → turns_by i gs m ≡ turned j (Taps taps) m)
+unfolding alongside turns_by
+one_turned [] i taps h = absurd (none-some taps h)
+one_turned (Nothing ∷ gs) i taps h =
+    let rest = one_turned gs (i + 1) taps h in
     (rest.0, λ m. ap (turns_by (i + 1) gs) (turned_nothing i m) ∙ rest.1 m)
-one_turned (Taps k ∷ gs) i h =
-    let rest = still_one gs k h in
-    (i, λ m. rest.1 (i + 1) (turned i (Taps k) m) ∙ ap (λ (n : ℕ). turned i (Taps n) m) (sym rest.0))
-one_turned (Hold ∷ gs) i h = not_more gs h
-one_turned (Release ∷ gs) i h = not_more gs h
-
--- No taps move no mode: so taps that do are those of a run that is alone.
-none_shifts : (mode : Mode) → shifts mode 0 ≡ false
-unfolding shifts
-none_shifts Normal = refl
-none_shifts Setup = refl
-none_shifts Factory = refl
-
-shifts_one : (mode : Mode) (a : Alone) → shifts mode (taps_of a) ≡ true → is_one a ≡ true
-unfolding taps_of
-shifts_one mode Nobody h = absurd (true≢false (sym h ∙ none_shifts mode))
-shifts_one mode (One n) h = refl
-shifts_one mode More h = absurd (true≢false (sym h ∙ none_shifts mode))
+one_turned (Taps k ∷ gs) i taps h =
+    let rest = still_one gs k taps h in
+    (i, λ m. rest.1 (i + 1) (turned i (Taps k) m) ∙ ap (λ (n : ℕ). turned i (Taps n) m) rest.0)
+one_turned (Hold ∷ gs) i taps h = absurd (none-some taps h)
+one_turned (Release ∷ gs) i taps h = absurd (none-some taps h)
 
 -- Taps that move the mode enter it, write what they write, and send nothing.
 either : (a b : Bool) {X : Type 0} → (a ≡ true → X) → (b ≡ true → X) → (a || b) ≡ true → X
@@ -120,13 +88,12 @@ shift_turned i n m h =
 
 -- So the turns of a tick whose lone taps move the mode.
 pub lone_turns :
-    (gs : List Gesture) (m : Moment)
+    (gs : List Gesture) (taps : ℕ) (m : Moment)
     → let mode = m.core.mode in
-    let taps = lone gs in
-    shifts mode taps ≡ true
+    lone gs ≡ Some taps → shifts mode taps ≡ true
     → turns_by 0 gs m
     ≡ moment (applied (writes mode (Taps taps)) [] m.registers) (entering (leads mode (Taps taps)) m.core) m.sent (followed m.change (change_of (writes mode (Taps taps)) []))
 unfolding lone
-lone_turns gs m h =
-    let one = one_turned gs 0 (shifts_one m.core.mode (alongside Nobody gs) h) in
-    one.1 m ∙ shift_turned one.0 (taps_of (alongside Nobody gs)) m h
+lone_turns gs taps m alone h =
+    let one = one_turned gs 0 taps alone in
+    one.1 m ∙ shift_turned one.0 taps m h

@@ -1,5 +1,5 @@
 -- A tick over what its callees promise.
-use Rattle.std.specs.Prelude.{◌≡◌, ℕ, ◌≤◌, Bool, true, List, [], map, length}
+use Rattle.std.specs.Prelude.{◌≡◌, ℕ, ◌≤◌, Bool, true, List, [], Some, map, length}
 use mathlib.Core.Path.{refl, sym, ap, subst, ◌∙◌}
 use Rattle.words.proofs.Laws.{both}
 use Rattle.timers.specs.Timers.{beats}
@@ -132,7 +132,7 @@ unsignalled c = refl
 -- A tick whose lone taps move the mode.
 pub ticks_shift :
     (c n l all out : List ℕ) (gs : List Gesture) (l' : List ℕ) (taps : ℕ) (mode : Mode) (moves : Bool) (c' n' all' : List ℕ) (none : Sent) (r : Answer)
-    → Sized c n → panel.Ticks l gs l' → taps ≡ lone gs → mode ≡ mode_in n → moves ≡ shifts mode taps → moves ≡ true
+    → Sized c n → panel.Ticks l gs l' → lone gs ≡ Some taps → mode ≡ mode_in n → moves ≡ shifts mode taps → moves ≡ true
     → Shifts taps c n all c' n' all' → none ≡ tally [] → r ≡ answer_with 0 none all' (core_of c' n')
     → Ticks c n l all out r c' n' l' all' out
 unfolding job_of_tick core_of aged after placed
@@ -142,9 +142,9 @@ ticks_shift c n l all out gs l' taps mode moves c' n' all' none r sized ticks al
     let m₀ = moment all (aged k) [] nothing in
     let w = password_of n in
     let done : Moment = moment (applied (writes k.mode (Taps taps)) [] all) (shifted taps k) [] (change_of (writes k.mode (Taps taps)) []) in
-    let yes'' : shifts (mode_in n) (lone gs) ≡ true = rw (← is, ← alone) (sym tells ∙ yes') in
+    let yes'' : shifts (mode_in n) taps ≡ true = rw (← is) (sym tells ∙ yes') in
     let turned : turns 0 ps m₀ ≡ done =
-    turns_by_lem 0 ps m₀ ∙ ap (λ (g : List Gesture). turns_by 0 g m₀) (sym ticks.completed) ∙ lone_turns gs m₀ yes'' ∙ rw (alone, followed_nothing) in
+    turns_by_lem 0 ps m₀ ∙ ap (λ (g : List Gesture). turns_by 0 g m₀) (sym ticks.completed) ∙ lone_turns gs taps m₀ alone yes'' ∙ rw followed_nothing in
     let last = after (saved (shifted taps k)) done in
     leaves_shown _ 0 [] (saved (shifted taps k)).core (changed (change_of (writes k.mode (Taps taps)) []) w) (map next_paddle ps) c n l out none r c' n' l' all' out sized
     (ap (λ (m : Moment). settled w (finished (after (saved m.core) m) (map next_paddle ps))) turned

@@ -65,12 +65,13 @@ fn complete(
 {
     sized(counters, numbers);
     let gestures = panel::tick(paddles);
-    let taps = lone(gestures);
-    if shifts(mode_in(numbers), taps) {
-        shift(taps, counters, numbers, all);
-        return shown(0, Sent::none(), counters, numbers, all);
+    match lone(gestures) {
+        Some(taps) if shifts(mode_in(numbers), taps) => {
+            shift(taps, counters, numbers, all);
+            shown(0, Sent::none(), counters, numbers, all)
+        }
+        _ => turn(gestures, counters, numbers, all, out),
     }
-    turn(gestures, counters, numbers, all, out)
 }
 
 // A tick with all its stages: paddles may act and send, the level may be saved.
@@ -119,6 +120,7 @@ fn finish(
 }
 
 // A tick that sends begins the red signal, and no other.
+#[tactic(auto, unfolding(switch::specs::Code::signalled_on))]
 fn signalled_on(core: Core, count: u8) -> Core
     ensures { result ≡ signalled_on count core }
 {

@@ -1,11 +1,11 @@
 -- The gestures one after the other, as the code goes through them: each begins anew with nothing sent and nothing changed.
-use mathlib.Core.Path.{◌≡◌, refl, sym, ap, subst, ◌∙◌}
+use mathlib.Core.Path.{◌≡◌, refl, sym, ap, ◌∙◌}
 use mathlib.Core.Bool.{true, true≢false}
-use mathlib.Core.List.{List, [], ◌∷◌, ◌++◌, map, append_assoc, append-nil}
-use Prim.Native.Nat.{ℕ, suc, ◌+◌, ◌≤◌, ◌<◌}
+use mathlib.Core.List.{List, [], ◌∷◌, ◌++◌, map, append-nil}
+use native.Mathlib.Omega.{arith}
+use Prim.Native.Nat.{ℕ, zero, suc, ◌+◌, ◌<◌}
 use native.Mathlib.Numerals.{add-one}
-use lib.ListN.{length, get_or, drop, drop_of_length-le}
-use lib.Seq.{drop-cons}
+use lib.ListN.{length, get_or, take}
 use Rattle.words.proofs.Laws.{both, one_outcome}
 use Rattle.units.specs.Units.{percent_of}
 use Rattle.units.specs.declared.Percent.{Percent}
@@ -31,11 +31,11 @@ use Rattle.herald.specs.Herald.{announced, chosen, command_number, gesture_messa
 use Rattle.post.specs.Post.{bytes_of, enveloped}
 use Rattle.post.specs.declared.Note.{Note}
 use Rattle.outbox.specs.declared.Outbox.{Outbox}
-use Rattle.outbox.specs.Code.{boxed, packets_in}
+use Rattle.outbox.specs.Code.{boxed, no_notes}
 use Rattle.post.specs.Code.{front, sent_of}
 use Rattle.herald.specs.Code.{note_of}
 use Rattle.herald.proofs.Announcing.{note_sent}
-use Rattle.outbox.proofs.Laying.{Holds, holds_more}
+use Rattle.outbox.proofs.Laying.{Holds, holds_more, holds_none}
 use Rattle.turns.specs.Turns.{Moment, moment, after, turned, turns}
 use Rattle.turns.specs.Code.{turns_by, Stands, Turned, TakesTurn}
 use Rattle.turns.specs.declared.After.{After}
@@ -106,61 +106,9 @@ joined m rest = moment rest.registers rest.core (m.sent ++ rest.sent) (followed 
 abbrev pub anew : Moment → Moment
 anew m = moment m.registers m.core [] nothing
 
-pub turns_joined : (i : ℕ) (gs : List Gesture) (m : Moment) → turns_by i gs m ≡ joined m (turns_by i gs (anew m))
-unfolding turns_by turned after
-turns_joined i [] m = rw (append-nil m.sent, nothing_followed m.change)
-turns_joined i (g ∷ gs) m =
-    let now = turned i g m in
-    let alone = turned i g (anew m) in
-    let rest = turns_by (i + 1) gs (anew now) in
-    let mine = change_of (acted m.registers i g m.core).write [] in
-    turns_joined (i + 1) gs now
-    ∙ rw (append_assoc m.sent alone.sent rest.sent, followed_followed m.change mine rest.change, ← followed_nothing mine)
-    (ap (joined m) (sym (turns_joined (i + 1) gs alone)))
-
--- The rest of the turns, begun anew with the password as it now stands, comes to where the whole comes, once these packets are put in front.
-pub record Onward (whole : Moment) (began : Password) (rest : Moment) (w : Password) (packets : List (List ℕ)) : Type 0 where
-  pub core : rest.core ≡ whole.core
-  pub registers : rest.registers ≡ whole.registers
-  pub sent : packets ++ rest.sent ≡ whole.sent
-  pub password : changed rest.change w ≡ changed whole.change began
-
-pub onward_begins : (m : Moment) (w : Password) → Onward m w m w []
-onward_begins m w = record { core = refl; registers = refl; sent = refl; password = refl }
-
-pub onward_ends : (whole : Moment) (began w : Password) (all : List ℕ) (c : Core) (packets : List (List ℕ))
-    → Onward whole began (moment all c [] nothing) w packets → Stands whole began c all packets w
-unfolding changed became
-onward_ends whole began w all c packets o =
-    record { core = o.core; registers = o.registers; sent = sym (append-nil packets) ∙ o.sent; password = o.password }
-
--- One turn more.
-pub one_turn :
-    (i : ℕ) (g : Gesture) (gs : List Gesture) (all all' : List ℕ) (c c' : Core) (w w' : Password) (packets : List (List ℕ))
-    → Stands (turned i g (moment all c [] nothing)) w c' all' packets w'
-    → Onward (turns_by i (g ∷ gs) (moment all c [] nothing)) w (turns_by (i + 1) gs (moment all' c' [] nothing)) w' packets
-unfolding turns_by
-one_turn i g gs all all' c c' w w' packets s =
-    let now = turned i g (moment all c [] nothing) in
-    let rest = turns_by (i + 1) gs (anew now) in
-    let whole : turns_by (i + 1) gs now ≡ joined now rest = turns_joined (i + 1) gs now in
-    record {
-      core = rw (whole, s.core, s.registers);
-      registers = rw (whole, s.core, s.registers);
-      sent = rw (whole, s.core, s.registers, s.sent);
-      password = rw (whole, s.core, s.registers, s.password) (sym (changed_followed now.change rest.change w));
-    }
-
-pub onward_again :
-    (whole rest after : Moment) (began w w' : Password) (before packets : List (List ℕ))
-    → Onward whole began rest w before → Onward rest w after w' packets → Onward whole began after w' (before ++ packets)
-onward_again whole rest after began w w' before packets o n =
-    record {
-      core = n.core ∙ o.core;
-      registers = n.registers ∙ o.registers;
-      sent = append_assoc before packets after.sent ∙ rw n.sent o.sent;
-      password = n.password ∙ o.password;
-    }
+turned_joined : (i : ℕ) (g : Gesture) (m : Moment) → turned i g m ≡ joined m (turned i g (anew m))
+unfolding turned after
+turned_joined i g m = rw followed_nothing
 
 -- Nothing completed is no gesture, and sends nothing.
 pub nothing_done_lem : (g : Gesture) → completes_nothing g ≡ true → g ≡ Nothing
@@ -216,47 +164,45 @@ pub takes_turn :
     → TakesTurn i g b all (record { core = a.core; password = a.password; outbox = box }) all'
 takes_turn i g b all all' a box t more = record { stands = rw (← t.noted) t.stands; noted = rw (← t.noted) more }
 
--- Where the code stands when the first i gestures have had their turn.
-pub record Turning (whole : Moment) (began : Password) (gs : List Gesture) (i : ℕ) (now : AfterAll) (all : List ℕ) : Type 0 where
-  pub packets : List (List ℕ)
-  pub holds : Holds i packets now.outbox
-  pub onward : Onward whole began (turns_by i (drop i gs) (moment all now.core [] nothing)) now.password packets
+-- One turn more.
+turns_snoc :
+    (k i j : ℕ) (gs : List Gesture) (m : Moment) → i < length gs → j ≡ k + i
+    → turns_by k (take (suc i) gs) m ≡ turned j (get_or gs i Nothing) (turns_by k (take i gs) m)
+unfolding turns_by
+turns_snoc k i j [] m low e = absurd (omega arith)
+turns_snoc k zero j (g ∷ gs) m low e = ap (λ (n : ℕ). turned n g m) (omega arith)
+turns_snoc k (suc i) j (g ∷ gs) m low e = turns_snoc (k + 1) i j gs (turned k g m) (omega arith) (omega arith)
 
-pub turning_begins :
-    (gs : List Gesture) (c : Core) (all : List ℕ) (w : Password) (box : Outbox) → Holds 0 [] box
-    → Turning (turns_by 0 gs (moment all c [] nothing)) w gs 0 (record { core = c; password = w; outbox = box }) all
-turning_begins gs c all w box h = record { packets = []; holds = h; onward = onward_begins (turns_by 0 gs (moment all c [] nothing)) w }
+-- Where the code stands when the first i gestures have had their turn: at the moment that these lead to, their notes in the box.
+pub record Turning (m : Moment) (began : Password) (i : ℕ) (now : AfterAll) (all : List ℕ) : Type 0 where
+  pub core : now.core ≡ m.core
+  pub registers : all ≡ m.registers
+  pub holds : Holds i m.sent now.outbox
+  pub password : now.password ≡ changed m.change began
+
+pub turning_begins : (c : Core) (all : List ℕ) (w : Password) (box : Outbox) → box ≡ no_notes → Turning (turns_by 0 [] (moment all c [] nothing)) w 0 (record { core = c; password = w; outbox = box }) all
+unfolding turns_by changed became
+turning_begins c all w box e = record { core = refl; registers = refl; holds = holds_none box e; password = refl }
 
 pub turning_again :
-    (whole : Moment) (began : Password) (gs : List Gesture) (i : ℕ) (now : AfterAll) (all : List ℕ) (next : AfterAll) (all' : List ℕ)
-    → Turning whole began gs i now all → i < length gs → i < paddle_count
+    (gs : List Gesture) (m : Moment) (began : Password) (i : ℕ) (now : AfterAll) (all : List ℕ) (next : AfterAll) (all' : List ℕ)
+    → Turning (turns_by 0 (take i gs) m) began i now all → i < length gs → i < paddle_count
     → TakesTurn i (get_or gs i Nothing) now all next all'
-    → Turning whole began gs (i + 1) next all'
-turning_again whole began gs i now all next all' t inside room takes =
+    → Turning (turns_by 0 (take (i + 1) gs) m) began (i + 1) next all'
+turning_again gs m began i now all next all' t inside room takes =
     let g = get_or gs i Nothing in
-    let later = drop (suc i) gs in
+    let before = turns_by 0 (take i gs) m in
+    let one = turned i g (anew before) in
     let n = note_of all' now.core.mode i g (percent_of next.core.dimmer.level) in
-    let rest = turns_by i (drop i gs) (moment all now.core [] nothing) in
-    let step : Onward rest now.password (turns_by (i + 1) later (moment all' next.core [] nothing)) next.password (sent_of n) =
-    rw (drop-cons gs i Nothing inside) (one_turn i g later all all' now.core next.core now.password next.password (sent_of n) takes.stands) in
+    let more : turns_by 0 (take (i + 1) gs) m ≡ joined before one = rw (add-one, turns_snoc 0 i i gs m inside (omega arith)) (turned_joined i g before) in
+    let s : Stands one now.password next.core all' (sent_of n) next.password = rw (← t.core, ← t.registers) takes.stands in
+    rw more
     record {
-      packets = t.packets ++ sent_of n;
-      holds = holds_more i t.packets now.outbox next.outbox n t.holds room takes.noted;
-      onward =
-          subst (λ (k : ℕ). Onward whole began (turns_by (i + 1) (drop k gs) (moment all' next.core [] nothing)) next.password (t.packets ++ sent_of n))
-          (sym (add-one i))
-          (onward_again whole rest _ began now.password next.password t.packets (sent_of n) t.onward step);
+      core = s.core;
+      registers = s.registers;
+      holds = rw (← s.sent) (holds_more i before.sent now.outbox next.outbox n t.holds room takes.noted);
+      password = s.password ∙ rw (t.password, changed_followed before.change one.change began);
     }
-
-pub turning_ends :
-    (whole : Moment) (began : Password) (gs : List Gesture) (i : ℕ) (now : AfterAll) (all : List ℕ)
-    → Turning whole began gs i now all → length gs ≤ i
-    → Stands whole began now.core all (packets_in now.outbox) now.password
-unfolding turns_by
-turning_ends whole began gs i now all t h =
-    let o : Onward whole began (moment all now.core [] nothing) now.password t.packets =
-    subst (λ (l : List Gesture). Onward whole began (turns_by i l (moment all now.core [] nothing)) now.password t.packets) (drop_of_length-le gs h) t.onward in
-    rw t.holds.inside (onward_ends whole began now.password all now.core t.packets o)
 
 -- The turns of paddles are those of their gestures.
 pub turns_by_lem : (i : ℕ) (ps : List Paddle) (m : Moment) → turns i ps m ≡ turns_by i (map gesture ps) m

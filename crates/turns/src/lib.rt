@@ -45,16 +45,14 @@ pub fn turns(
         password,
         outbox: Outbox::none(),
     };
-    let mut i = 0;
-    while i < PADDLES {
-        let gesture = gestures[i];
-        next = next_turn(next, i as u8, gesture, all);
-        i += 1;
+    for (i, gesture) in gestures.iter().enumerate() {
+        next = next_turn(next, i as u8, *gesture, all);
     }
     next
 }
 
 // One gesture more; where there is none, all stays.
+#[tactic(auto, using(crate::proofs::Laws::takes_turn))]
 fn next_turn(before: AfterAll, paddle: u8, gesture: Gesture, all: &mut [u8; 256]) -> AfterAll
     ensures { TakesTurn paddle gesture before all.old result all.new }
 {

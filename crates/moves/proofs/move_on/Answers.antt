@@ -1,12 +1,9 @@
 use native.Mathlib.Omega.{arith}
-use Rattle.moves.proofs.Laws.{moves_beat, moves_between, moves_not}
+use Rattle.moves.proofs.Laws.{moves_between, moves_not}
 use Rattle.moves.proofs.move_on.Goals as goal
 
 pub returns-then-idle : goal.returns-then-idle
 returns-then-idle c = moves_not _ _ _ c.idle.ensures c.if-idle.true
-
-pub returns-then-left-eq0 : goal.returns-then-left-eq0
-returns-then-left-eq0 c = moves_beat _ _ _ _ _ _ c.dimmer_of.ensures c.tick-dimmer.ensures c.keep_dimmer.ensures
 
 pub returns : goal.returns
 returns c = moves_between _ _ _ _ _ _ c.idle.ensures c.if-idle.false c.left_in-left.ensures (omega arith) c.run.ensures c.keep_left.ensures

@@ -1,10 +1,6 @@
-use Prim.Native.Nat.{◌≤◌, ◌-◌}
-use Rattle.model.specs.Model.{paddle_count}
-use Rattle.panel.proofs.Loops.{Louder}
+use mathlib.Core.Path.{◌≡◌}
+use Rattle.panel.specs.Code.{loud_from}
 use Rattle.panel.proofs.quiet.Given as goal
 
 abbrev pub invariant-loop-i : goal.invariant-loop-i
-invariant-loop-i l = (l.i ≤ paddle_count) × Louder l.paddles l.i l.loud
-
-abbrev pub decreases-loop-i : goal.decreases-loop-i
-decreases-loop-i l = paddle_count - l.i
+invariant-loop-i l = l.loud ≡ loud_from 0 l.i l.paddles

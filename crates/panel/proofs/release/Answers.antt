@@ -1,11 +1,5 @@
-use Rattle.panel.proofs.Laws.{paddle_low, release_kept}
+use Rattle.panel.proofs.Laws.{release_kept}
 use Rattle.panel.proofs.release.Goals as goal
-
-pub paddle_at-requires : goal.paddle_at-requires
-paddle_at-requires c = rw c.paddle_of-i.ensures (paddle_low _)
-
-pub keep_paddle-requires : goal.keep_paddle-requires
-keep_paddle-requires c = rw c.paddle_of-i.ensures (paddle_low _)
 
 pub returns : goal.returns
 returns c =

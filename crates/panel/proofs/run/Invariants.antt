@@ -1,10 +1,6 @@
-use Prim.Native.Nat.{◌≤◌, ◌-◌}
-use Rattle.model.specs.Model.{paddle_count}
-use Rattle.panel.proofs.Loops.{Running}
+use mathlib.Core.Path.{◌≡◌}
+use Rattle.panel.specs.Code.{ran_from}
 use Rattle.panel.proofs.run.Given as goal
 
 abbrev pub invariant-loop-i : goal.invariant-loop-i
-invariant-loop-i l = (l.i ≤ paddle_count) × Running l.initial.paddles l.i l.paddles
-
-abbrev pub decreases-loop-i : goal.decreases-loop-i
-decreases-loop-i l = paddle_count - l.i
+invariant-loop-i l = l.paddles ≡ ran_from 0 l.i l.initial.paddles

@@ -1,4 +1,3 @@
-use borrow.Author.Tests.{not-false}
 use native.Mathlib.Omega.{arith}
 use Rattle.switch.specs.Switch.{tick}
 use Rattle.switch.proofs.Laws.{short_responds}
@@ -16,5 +15,5 @@ returns-then-not-quiet c = tick_all _ _ _ _ _ _ _ _ _ _ _ (omega arith) c.comple
 
 pub returns : goal.returns
 returns c =
-    tick_quick _ _ _ _ _ _ _ _ _ _ c.none-2.result c.shown-2.result (omega (arith, c.if-out-lt-ROOM.false)) c.save_in.ensures (omega (arith, c.if-save_in-eq0.false)) c.quiet.ensures (not-false _ c.if-not-quiet.false-raw) c.sized.ensures c.run.ensures
+    tick_quick _ _ _ _ _ _ _ _ _ _ c.none-2.result c.shown-2.result (omega (arith, c.if-out-lt-ROOM.false)) c.save_in.ensures (omega (arith, c.if-save_in-eq0.false)) c.quiet.ensures c.if-not-quiet.false c.sized.ensures c.run.ensures
     c.pass.ensures c.none-2.ensures c.shown-2.ensures
