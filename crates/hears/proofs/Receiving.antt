@@ -1,5 +1,5 @@
 -- A received packet, over what its callees promise.
-use Rattle.std.specs.Prelude.{◌≡◌, ℕ, ◌≤◌, Bool, true, false, cond, List, [], length, drop}
+use Rattle.std.specs.Prelude.{◌≡◌, ℕ, ◌≤◌, Bool, true, false, cond, List, [], Result, Ok, Err, length, drop}
 use mathlib.Core.Path.{refl, sym, ap, subst, ◌∙◌}
 use native.Mathlib.Omega.{arith}
 use Rattle.units.specs.Units.{percent_of}
@@ -13,11 +13,12 @@ use Rattle.vault.specs.declared.Mode.{Mode}
 use Rattle.vault.specs.declared.Mode.TheVariants.{Normal, Setup, Factory}
 use Rattle.vault.specs.declared.Password.{Password}
 use Rattle.packet.specs.Reading.{message_from, message_of, number_of_frame, read_of}
-use Rattle.packet.specs.declared.Frame.{Frame}
-use Rattle.packet.specs.declared.Frame.TheVariants as frame
+use Rattle.packet.specs.declared.Flaw.{Flaw}
 use Rattle.packet.specs.declared.Header.{Header}
 use Rattle.model.specs.Model.{place, room}
-use Rattle.judge.specs.Judge.{judged}
+use Rattle.judge.specs.Judge.{judged, number_of_denied}
+use Rattle.judge.specs.declared.Denied.{Denied}
+use Rattle.judge.specs.declared.Denied.TheVariants as denied
 use Rattle.judge.specs.declared.Order.{Order}
 use Rattle.judge.specs.declared.Order.TheVariants as order
 use Rattle.acts.specs.Core.{opened, signalled, unwritten}
@@ -37,8 +38,6 @@ use Rattle.panel.proofs.Laws.{paddles_same}
 use Rattle.obey.specs.Obey.{hue_of}
 use Rattle.verdict.specs.Code.{seen_by, seen_of, verdict_of, verdict_on}
 use Rattle.obey.specs.Code.{Obeys, Ready, effect_of, hue_by, reply_of}
-use Rattle.verdict.specs.declared.Verdict.{Verdict}
-use Rattle.verdict.specs.declared.Verdict.TheVariants.{Stop, Go}
 use Rattle.obey.proofs.Laws.{hue_told}
 use Rattle.switch.specs.Switch.{Plain, Shown, answer_with, event, receive, switch_of}
 use Rattle.switch.specs.Events.{garbled, job_of_bytes, job_of_deed, job_of_frame, job_of_guess, job_of_order, job_of_read, job_of_work, outcome_of, plain_after, refused}
@@ -47,39 +46,22 @@ use Rattle.switch.specs.Code.{told}
 use Rattle.answers.specs.declared.Answer.{Answer}
 use Rattle.switch.proofs.Laws.{leaves_all, leaves_shown, says, unchanged}
 
--- A stop is no grant, and has one number.
-stops : Verdict → ℕ
-stops (Stop n) = 1
-stops Go = 0
-
-number_of : Verdict → ℕ
-number_of (Stop n) = n
-number_of Go = 0
-
-apart_verdicts : (n : ℕ) → Go ≡ Stop n → ⊥
-unfolding stops
-apart_verdicts n h = let z : ◌≡◌ {A = ℕ} 0 1 = ap stops h in absurd (omega arith)
-
-same_number : {m n : ℕ} → Stop m ≡ Stop n → m ≡ n
-unfolding number_of
-same_number h = ap number_of h
-
--- A guess is granted or stopped by whether it matches.
-guess_granted : (w guess : Password) → verdict_on w guess ≡ Go → matches w guess ≡ true
+-- A guess is granted, as it is, or denied by whether it matches.
+guess_granted : (w guess : Password) (o : Order) → verdict_on w guess ≡ Ok o → (matches w guess ≡ true) × (order.Guess guess ≡ o)
 unfolding verdict_on
-guess_granted w guess = go (matches w guess)
+guess_granted w guess o = go (matches w guess)
   where
-    go : (b : Bool) → cond b Go (Stop 14) ≡ Go → b ≡ true
-    go true h = refl
-    go false h = absurd (apart_verdicts 14 (sym h))
+    go : (b : Bool) → cond b (Ok (order.Guess guess)) (Err denied.Password) ≡ Ok o → (b ≡ true) × (order.Guess guess ≡ o)
+    go true h = (refl, cc)
+    go false h = cc
 
-guess_stopped : (w guess : Password) (n : ℕ) → verdict_on w guess ≡ Stop n → (matches w guess ≡ false) × (n ≡ 14)
+guess_denied : (w guess : Password) (d : Denied) → verdict_on w guess ≡ Err d → (matches w guess ≡ false) × (denied.Password ≡ d)
 unfolding verdict_on
-guess_stopped w guess n = go (matches w guess)
+guess_denied w guess d = go (matches w guess)
   where
-    go : (b : Bool) → cond b Go (Stop 14) ≡ Stop n → (b ≡ false) × (n ≡ 14)
-    go true h = absurd (apart_verdicts n h)
-    go false h = (refl, sym (same_number h))
+    go : (b : Bool) → cond b (Ok (order.Guess guess)) (Err denied.Password) ≡ Err d → (b ≡ false) × (denied.Password ≡ d)
+    go true h = cc
+    go false h = (refl, cc)
 
 -- A reading shows the password in Setup alone.
 seen_outcome :
@@ -98,34 +80,33 @@ granted o source values p w =
     answered (outcome_of e values source (reply_of o) p (seen_of o p.core.mode w)) (changed (change_of e.write values) w)
 
 pub says_granted :
-    (o : Order) (source : ℕ) (values : List ℕ) (p : Plain) (w : Password) → verdict_of o w ≡ Go
-    → settled w (job_of_order o source values p) ≡ granted o source values p w
+    (j : Result Order Denied) (o : Order) (source : ℕ) (values : List ℕ) (p : Plain) (w : Password) → verdict_of j w ≡ Ok o
+    → settled w (job_of_order j source values p) ≡ granted o source values p w
 unfolding verdict_of job_of_order job_of_guess job_of_work settled effect_of reply_of seen_of outcome_of plain_after opened unwritten applied change_of change_at changed became replied reply_message enveloped
-says_granted (order.Refused n) source values p w h = absurd (apart_verdicts n (sym h))
-says_granted (order.Guess guess) source values p w h = rw (guess_granted w guess h)
-says_granted (order.Read first count) source values p w h = seen_outcome first count source p w p.core.mode refl
-says_granted (order.Work o) source values p w h = refl
+says_granted (Err d) o source values p w h = cc
+says_granted (Ok (order.Guess guess)) o source values p w h =
+    let g = guess_granted w guess o h in
+    rw (← g.1, g.0)
+says_granted (Ok (order.Read first count)) o source values p w h =
+    let same : order.Read first count ≡ o = cc in rw (← same) (seen_outcome first count source p w p.core.mode refl)
+says_granted (Ok (order.Work work)) o source values p w h = let same : order.Work work ≡ o = cc in rw (← same)
 
-pub says_stopped :
-    (o : Order) (source : ℕ) (values : List ℕ) (p : Plain) (w : Password) (n : ℕ) → verdict_of o w ≡ Stop n
-    → settled w (job_of_order o source values p) ≡ told n [] p w
+pub says_denied :
+    (j : Result Order Denied) (d : Denied) (source : ℕ) (values : List ℕ) (p : Plain) (w : Password) → verdict_of j w ≡ Err d
+    → settled w (job_of_order j source values p) ≡ told (number_of_denied d) [] p w
 unfolding verdict_of job_of_order job_of_guess settled refused changed became
-says_stopped (order.Refused m) source values p w n h = rw (← same_number h)
-says_stopped (order.Guess guess) source values p w n h =
-    let s = guess_stopped w guess n h in
-    rw (s.0, s.1)
-says_stopped (order.Read first count) source values p w n h = absurd (apart_verdicts n h)
-says_stopped (order.Work o) source values p w n h = absurd (apart_verdicts n h)
+says_denied (Err e) d source values p w h = let same : e ≡ d = cc in rw same
+says_denied (Ok (order.Guess guess)) d source values p w h =
+    let s = guess_denied w guess d h in
+    rw (← s.1, s.0)
+says_denied (Ok (order.Read first count)) d source values p w h = cc
+says_denied (Ok (order.Work work)) d source values p w h = cc
 
--- What `let Frame::Read(..) = frame else` leaves does not read.
-unread : (f : Frame) (message : List ℕ) (p : Plain) → ((h : Header) → f ≡ frame.Read h → ⊥) → job_of_frame f message p ≡ done (garbled (number_of_frame f) p) nothing
+-- What `let Ok(..) = frame else` leaves does not read.
+unread : (f : Result Header Flaw) (message : List ℕ) (p : Plain) → ((h : Header) → f ≡ Ok h → ⊥) → job_of_frame f message p ≡ done (garbled (number_of_frame f) p) nothing
 unfolding job_of_frame
-unread (frame.Read h) message p k = absurd (k h refl)
-unread frame.Short message p k = refl
-unread frame.Long message p k = refl
-unread frame.Length message p k = refl
-unread frame.Sum message p k = refl
-unread frame.Reserved message p k = refl
+unread (Ok h) message p k = absurd (k h refl)
+unread (Err flaw) message p k = refl
 
 -- The signal kept alone.
 pub signal_alone :
@@ -144,16 +125,16 @@ kept_signalled k w hue c n c₁ n₁ c₂ n₂ lamp ready =
     let l = signal_set hue k.lamp in
     record { counted = lamp.counted ∙ ready.counted l; numbered = lamp.numbered ∙ ready.numbered l }
 
-module _ (bytes c n l all out : List ℕ) (enough : room ≤ length out) (f : Frame) (read : f ≡ read_of bytes) where
+module _ (bytes c n l all out : List ℕ) (enough : room ≤ length out) (f : Result Header Flaw) (read : f ≡ read_of bytes) where
   asked : respond (switch_of c n l all) (event (length out) (receive bytes)) ≡ settled (password_of n) (job_of_frame f (message_from f bytes) (switch_of c n l all).plain)
   unfolding job_of_deed job_of_bytes message_of
   asked =
       says (switch_of c n l all).plain (password_of n) (length out) (receive bytes) enough
-      ∙ ap (λ (x : Frame). settled (password_of n) (job_of_frame x (message_from x bytes) (switch_of c n l all).plain)) (sym read)
+      ∙ ap (λ (x : Result Header Flaw). settled (password_of n) (job_of_frame x (message_from x bytes) (switch_of c n l all).plain)) (sym read)
 
   pub garbled_responds :
       (number : ℕ) (c' n' : List ℕ) (none : Sent) (r : Answer) → Sized c n
-      → ((h : Header) → f ≡ frame.Read h → ⊥) → number ≡ number_of_frame f
+      → ((h : Header) → f ≡ Ok h → ⊥) → number ≡ number_of_frame f
       → LampKept (signal_set Black (lamp_of c n)) c n c' n'
       → none ≡ tally [] → r ≡ answer_with number none all (core_of c' n')
       → Responds (receive bytes) c n l all out r c' n' l all out
@@ -163,33 +144,35 @@ module _ (bytes c n l all out : List ℕ) (enough : room ≤ length out) (f : Fr
       (asked ∙ ap (settled (password_of n)) (unread f (message_from f bytes) (switch_of c n l all).plain tag) ∙ rw (unchanged (password_of n), numbered))
       none_sent shows (signal_alone Black c n c' n' kept) (sym (paddles_same l)) refl
 
-  module _ (h : Header) (message : List ℕ) (mode : Mode) (o : Order) (reads : f ≡ frame.Read h) (framed : message ≡ message_from (frame.Read h) bytes) (moded : mode ≡ mode_in n)
-      (judges : o ≡ judged all mode h message) where
-    ordered : respond (switch_of c n l all) (event (length out) (receive bytes)) ≡ settled (password_of n) (job_of_order o h.source (drop 2 message) (switch_of c n l all).plain)
+  module _ (h : Header) (message : List ℕ) (mode : Mode) (j : Result Order Denied) (reads : f ≡ Ok h) (framed : message ≡ message_from (Ok h) bytes) (moded : mode ≡ mode_in n)
+      (judges : j ≡ judged all mode h message) where
+    ordered : respond (switch_of c n l all) (event (length out) (receive bytes)) ≡ settled (password_of n) (job_of_order j h.source (drop 2 message) (switch_of c n l all).plain)
     unfolding job_of_frame core_of
     ordered =
         asked
-        ∙ ap (λ (x : List ℕ). settled (password_of n) (job_of_frame f x (switch_of c n l all).plain)) (ap (λ (x : Frame). message_from x bytes) reads ∙ sym framed)
-        ∙ ap (λ (x : Frame). settled (password_of n) (job_of_frame x message (switch_of c n l all).plain)) reads
-        ∙ ap (λ (x : Order). settled (password_of n) (job_of_order x h.source (drop 2 message) (switch_of c n l all).plain)) (ap (λ (x : Mode). judged all x h message) (sym moded) ∙ sym judges)
+        ∙ ap (λ (x : List ℕ). settled (password_of n) (job_of_frame f x (switch_of c n l all).plain)) (ap (λ (x : Result Header Flaw). message_from x bytes) reads ∙ sym framed)
+        ∙ ap (λ (x : Result Header Flaw). settled (password_of n) (job_of_frame x message (switch_of c n l all).plain)) reads
+        ∙ ap (λ (x : Result Order Denied). settled (password_of n) (job_of_order x h.source (drop 2 message) (switch_of c n l all).plain)) (ap (λ (x : Mode). judged all x h message) (sym moded) ∙ sym judges)
 
-    pub stopped_responds :
-        (v : Verdict) (w : Password) (number : ℕ) (none : Sent) (r : Answer) → w ≡ password_of n → v ≡ verdict_of o w → v ≡ Stop number
-        → none ≡ tally [] → r ≡ answer_with number none all (core_of c n)
+    pub denied_responds :
+        (v : Result Order Denied) (w : Password) (d : Denied) (number : ℕ) (none : Sent) (r : Answer) → w ≡ password_of n → v ≡ verdict_of j w → v ≡ Err d
+        → number ≡ number_of_denied d → none ≡ tally [] → r ≡ answer_with number none all (core_of c n)
         → Responds (receive bytes) c n l all out r c n l all out
-    stopped_responds v w number none r own judged-so stops none_sent shows =
+    denied_responds v w d number none r own judged-so denies numbered none_sent shows =
         leaves_all _ number c n l all out none r
-        (ordered ∙ says_stopped o h.source (drop 2 message) (switch_of c n l all).plain (password_of n) number (ap (verdict_of o) (sym own) ∙ sym judged-so ∙ stops))
+        (ordered
+        ∙ says_denied j d h.source (drop 2 message) (switch_of c n l all).plain (password_of n) (ap (verdict_of j) (sym own) ∙ sym judged-so ∙ denies)
+        ∙ rw numbered)
         none_sent shows
 
     pub granted_responds :
-        (v : Verdict) (w : Password) (values : List ℕ) (size : ℕ) (hue : Colour) (c₁ n₁ all₁ out₁ c₂ n₂ : List ℕ) (sent : Sent) (r : Answer)
-        → w ≡ password_of n → v ≡ verdict_of o w → v ≡ Go → values ≡ drop 2 message → Sized c n
+        (v : Result Order Denied) (w : Password) (o : Order) (values : List ℕ) (size : ℕ) (hue : Colour) (c₁ n₁ all₁ out₁ c₂ n₂ : List ℕ) (sent : Sent) (r : Answer)
+        → w ≡ password_of n → v ≡ verdict_of j w → v ≡ Ok o → values ≡ drop 2 message → Sized c n
         → Obeys (effect_of all o (core_of c n)) values h.source (reply_of o) (seen_of o (mode_in n) (password_of n)) c n all out size c₁ n₁ all₁ out₁
         → hue ≡ hue_by size → LampKept (signal_set hue (lamp_of c₁ n₁)) c₁ n₁ c₂ n₂ → sent ≡ lone size → r ≡ answer_with 0 sent all₁ (core_of c₂ n₂)
         → Responds (receive bytes) c n l all out r c₂ n₂ l all₁ out₁
     unfolding outcome_of plain_after core_of signalled
-    granted_responds v w values size hue c₁ n₁ all₁ out₁ c₂ n₂ sent r own judged-so goes behind sized obeys hued lamp counted shows =
+    granted_responds v w o values size hue c₁ n₁ all₁ out₁ c₂ n₂ sent r own judged-so goes behind sized obeys hued lamp counted shows =
         let w₀ = password_of n in
         let k₀ = core_of c n in
         let e = effect_of all o k₀ in
@@ -206,7 +189,7 @@ module _ (bytes c n l all out : List ℕ) (enough : room ≤ length out) (f : Fr
         let kept : CoreKept k w' c n c₂ n₂ = kept_signalled e.core w' (hue_of rep) c n c₁ n₁ c₂ n₂ (subst (λ (x : Lamp). LampKept x c₁ n₁ c₂ n₂) signal lamp) obeys.ready in
         leaves_shown _ 0 packets k w' (paddles_of l) c n l out sent r c₂ n₂ l all₁ out₁ sized
         (ordered
-        ∙ ap (λ (x : List ℕ). settled w₀ (job_of_order o source x (switch_of c n l all).plain)) (sym behind)
-        ∙ says_granted o source values (switch_of c n l all).plain w₀ (ap (verdict_of o) (sym own) ∙ sym judged-so ∙ goes)
+        ∙ ap (λ (x : List ℕ). settled w₀ (job_of_order j source x (switch_of c n l all).plain)) (sym behind)
+        ∙ says_granted j o source values (switch_of c n l all).plain w₀ (ap (verdict_of j) (sym own) ∙ sym judged-so ∙ goes)
         ∙ rw (← obeys.registers))
         sends.counted shows kept (sym (paddles_same l)) sends.bytes

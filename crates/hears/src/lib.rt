@@ -10,11 +10,10 @@ use lamp::Colour;
 use model::ROOM;
 use obey::{hue_of, obey, signal};
 use outbox::Sent;
-use packet::Frame;
 use state::parts::{mode_in, password_of};
 use state::{COUNTERS, NUMBERS, sized};
 use switch::shown;
-use verdict::{Verdict, verdict_of};
+use verdict::verdict_of;
 
 pub fn receive(
     counters: &mut [u16; COUNTERS],
@@ -30,16 +29,16 @@ pub fn receive(
     }
     sized(counters, numbers);
     let frame = packet::read(packet);
-    let Frame::Read(header) = frame else {
+    let Ok(header) = frame else {
         signal(Colour::Black, counters, numbers);
-        return shown(frame.number(), Sent::none(), counters, numbers, all);
+        return shown(packet::number(frame), Sent::none(), counters, numbers, all);
     };
     let message = packet::message(frame, packet);
-    let order = judge::judge(all, mode_in(numbers), header, message);
-    let verdict = verdict_of(order, password_of(numbers));
-    if let Verdict::Stop(number) = verdict {
-        return shown(number, Sent::none(), counters, numbers, all);
-    }
+    let judged = judge::judge(all, mode_in(numbers), header, message);
+    let order = match verdict_of(judged, password_of(numbers)) {
+        Ok(order) => order,
+        Err(denied) => return shown(denied.number(), Sent::none(), counters, numbers, all),
+    };
     let length = obey(
         order,
         header.source,
@@ -57,8 +56,5 @@ pub fn receive(
 fn values(message: &[u8]) -> &[u8]
     ensures { result.now ≡ drop 2 message.now }
 {
-    if message.len() < 2 {
-        return &message[..0];
-    }
-    &message[2..]
+    message.get(2..).unwrap_or(&[])
 }

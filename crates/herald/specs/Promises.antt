@@ -1,6 +1,6 @@
 -- What is promised of a paddle's packets beyond the single functions: our own reader takes each of them, what a paddle never sends, what no
 -- packet shows of the password's places, and case (j).
-use Rattle.std.specs.Prelude.{true, List, [], ◌∷◌, ◌≡◌, ℕ, suc, ◌+◌, ◌%◌, ◌≤◌, ◌<◌, min, length, get_or, Some, None}
+use Rattle.std.specs.Prelude.{true, List, [], ◌∷◌, ◌≡◌, ℕ, suc, ◌+◌, ◌%◌, ◌≤◌, ◌<◌, min, length, get_or, Option, Some, None}
 use Rattle.units.specs.declared.Percent.{Percent}
 use Rattle.vault.specs.declared.Mode.{Mode}
 use Rattle.vault.specs.declared.Mode.TheVariants.{Setup, Factory}
@@ -8,10 +8,9 @@ use Rattle.packet.specs.Layout.{packed}
 use Rattle.packet.specs.Reading.{message_of}
 use Rattle.paddle.specs.declared.Gesture.{Gesture}
 use Rattle.paddle.specs.declared.Gesture.TheVariants.{Nothing, Taps}
+use Rattle.vault.specs.declared.Password.{Password}
 use Rattle.places.specs.Places.{transmit_in, entry_in, secret}
 use Rattle.registers.specs.Registers.{apart, valid}
-use Rattle.registers.specs.declared.Seen.{Seen}
-use Rattle.registers.specs.declared.Seen.TheVariants.{Hidden}
 use Rattle.places.specs.declared.Entry.{Entry}
 use Rattle.post.specs.declared.Reply.{Reply}
 use Rattle.post.specs.declared.Reply.TheVariants.{Registers}
@@ -44,9 +43,9 @@ pub record Announces (all : List ℕ) (paddle : ℕ) (p : Percent) : Type 0 wher
 -- what the array holds there.
 pub record Hides : Type 0 where
   pub zero : (all : List ℕ) (first count i : ℕ) (p : Percent) → i < min 16 count → secret (first + i) ≡ true
-      → get_or (reply_message all Hidden (Registers first count) p) (suc (suc i)) 0 ≡ 0
+      → get_or (reply_message all None (Registers first count) p) (suc (suc i)) 0 ≡ 0
   pub replies : (a b : List ℕ) → apart a ≡ apart b
-      → (seen : Seen) (to : ℕ) (reply : Reply) (p : Percent) → replied a seen to reply p ≡ replied b seen to reply p
+      → (seen : Option Password) (to : ℕ) (reply : Reply) (p : Percent) → replied a seen to reply p ≡ replied b seen to reply p
   pub paddles : (a b : List ℕ) → apart a ≡ apart b
       → (mode : Mode) (paddle : ℕ) (g : Gesture) (p : Percent) → announced a mode paddle g p ≡ announced b mode paddle g p
 

@@ -8,14 +8,13 @@ use native.Mathlib.Omega.{arith}
 use borrow.Author.Tests.{not-true, not-false}
 use lib.Dec.{eqb}
 use lib.ListN.{length, drop, get_or}
+use Rattle.std.specs.Prelude.{Option, Some, Result, Ok, Err, if◌then◌else◌}
 use Rattle.words.proofs.Laws.{cases}
 use Rattle.vault.specs.declared.Mode.{Mode}
 use Rattle.levels.specs.Levels.{options_of}
 use Rattle.packet.specs.declared.Header.{Header}
 use Rattle.places.specs.Places.{dimming_in, components, link_place}
 use Rattle.registers.specs.Registers.{found, seek, valid}
-use Rattle.registers.specs.declared.Found.{Found}
-use Rattle.registers.specs.declared.Found.TheVariants.{At}
 use Rattle.verbs.specs.Verbs.{verb_of, listed, argument, optional, values, suits, arguments, registers_in_range}
 use Rattle.verbs.specs.Promises.{Takes, Range, Suits}
 use Rattle.verbs.specs.declared.Verb.{Verb}
@@ -25,12 +24,14 @@ use Rattle.reach.specs.Reach.{heard, target_of, reached, permitted, component_of
 use Rattle.reach.specs.Promises.{Unheard, Permitted, ByLink}
 use Rattle.reach.specs.declared.Target.{Target}
 use Rattle.reach.proofs.Checks.{heard_says, Aimed, aimed, reached_says, permitted_says, component_says, component_is}
+use Rattle.judge.specs.declared.Denied.{Denied}
+use Rattle.judge.specs.declared.Denied.TheVariants as denied
 use Rattle.judge.specs.declared.Order.{Order}
 use Rattle.judge.specs.declared.Order.TheVariants as order
 use Rattle.judge.specs.declared.Work.{Work}
 use Rattle.judge.specs.declared.Work.TheVariants as work
 use Rattle.judge.specs.declared.Drive.TheVariants as drive
-use Rattle.judge.specs.Judge.{driving, going, ordered, commanded, judged}
+use Rattle.judge.specs.Judge.{number_of_denied, driving, going, ordered, commanded, judged}
 use Rattle.judge.specs.Promises.{Reached, Listed, Suited, Refusal, wrong_network, not_ours, not_listed, wrong_arguments, not_permitted, Level, Terms, Asked}
 use Rattle.judge.specs.Code.{number_of_order, Judged, JudgedExactly, NumberExactly, OnlyNineTo13, ChecksInOrder}
 
@@ -84,6 +85,25 @@ range [] c t e = absurd (omega arith)
 range (a ∷ []) c t e = absurd (omega arith)
 range (a ∷ b ∷ rest) c t e = (ap (λ x. x ∷ b ∷ rest) e, (omega arith, (omega arith, omega arith)))
 
+-- Each refusal has a number of its own.
+denied_at : ℕ → Denied
+denied_at n =
+    if eqb n 9 then denied.Network
+    else if eqb n 10 then denied.Destination
+    else if eqb n 11 then denied.Command
+    else if eqb n 12 then denied.Arguments
+    else if eqb n 13 then denied.Circumstances
+    else denied.Password
+
+denied_back : (d : Denied) → denied_at (number_of_denied d) ≡ d
+unfolding denied_at
+denied_back denied.Network = refl
+denied_back denied.Destination = refl
+denied_back denied.Command = refl
+denied_back denied.Arguments = refl
+denied_back denied.Circumstances = refl
+denied_back denied.Password = refl
+
 -- What a row asks, by its three parts.
 pub terms : {Comes When Says : Type 0} → Comes → When → Says → Terms Comes When Says
 terms comes when says = record { comes = comes; when = when; says = says }
@@ -112,7 +132,7 @@ module _ (all : List ℕ) (mode : Mode) (h : Header) where
     pub given : Judged (judged all mode h m) all mode h m
     unfolding judged commanded
     given =
-        let row : Order → Type 0 = λ o. Judged o all mode h m in
+        let row : Result Order Denied → Type 0 = λ o. Judged o all mode h m in
         let n = argument m 0 in
         let v = verb_of n in
         let t = target_of all h in
@@ -144,8 +164,8 @@ module _ (all : List ℕ) (mode : Mode) (h : Header) where
   mine i r = component_is all h (target_of all h) i (aimed all h) (reaching r)
 
   -- A row of the table whose condition holds is what is answered.
-  refused : (n : ℕ) (m : List ℕ) → Refusal all mode h m n → judged all mode h m ≡ order.Refused n
-  unfolding judged commanded
+  refused : (n : ℕ) (m : List ℕ) → Refusal all mode h m n → judged all mode h m ≡ Err (denied_at n)
+  unfolding judged commanded denied_at
   refused n m (wrong_network u) = rw ((heard_says all h).1 u)
   refused n m (not_ours hears u) = rw (yes (heard all h.network) (heard_says all h) hears, (reached_says all h).1 u)
   refused n m (not_listed r u) = rw (hearing r, reaching r, (listed_says (argument m 0)).1 u)
@@ -166,24 +186,24 @@ module _ (all : List ℕ) (mode : Mode) (h : Header) where
       rw (n, hearing r, reaching r, l, (suits_says v m).1 s, (permitted_says all h v mode (target_of all h) (aimed all h) (reaching r)).1 p)
 
   -- A command's sentence that holds is what is answered.
-  pub only : (o : Order) (m : List ℕ) → Judged o all mode h m → judged all mode h m ≡ o
+  pub only : (o : Result Order Denied) (m : List ℕ) → Judged o all mode h m → judged all mode h m ≡ o
   unfolding verb_of ordered
-  only (order.Refused n) m g = refused n m g
-  only (order.Guess guess) m g = rw g.asked.says (passes _ Open refl refl g.reached (omega arith) (g.asked.comes, g.asked.when))
-  only (order.Read first count) m g = rw g.asked.says.0 (passes _ Get refl refl g.reached (omega arith, g.asked.says.1) g.asked.comes)
-  only (order.Work w) m g = works w g.reached g.asked
+  only (Err d) m g = refused (number_of_denied d) m g ∙ ap Err (denied_back d)
+  only (Ok (order.Guess guess)) m g = rw g.asked.says (passes _ Open refl refl g.reached (omega arith) (g.asked.comes, g.asked.when))
+  only (Ok (order.Read first count)) m g = rw g.asked.says.0 (passes _ Get refl refl g.reached (omega arith, g.asked.says.1) g.asked.comes)
+  only (Ok (order.Work w)) m g = works w g.reached g.asked
     where
-      works : (w : Work) → Reached all h → Asked (order.Work w) all mode h m → judged all mode h m ≡ order.Work w
+      works : (w : Work) → Reached all h → Asked (order.Work w) all mode h m → judged all mode h m ≡ Ok (order.Work w)
       works work.Report r a = rw a.says (passes _ Report refl refl r (omega arith) a.comes)
       works work.Close r a = rw a.says (passes _ Close refl refl r (omega arith) (a.comes, a.when))
       works (work.Set first) r a = rw a.says.0 (passes _ Set refl refl r (omega arith) (a.comes, a.when))
-      works (work.Store i) r a = rw a.says (passes _ Store refl refl r (omega arith) a.comes.0 ∙ ap (λ i. order.Work (work.Store i)) (mine i r a.comes))
-      works (work.Drive (drive.Activate i)) r a = rw a.says (passes _ Activate refl refl r (omega arith) a.comes.0 ∙ ap (λ i. driving (drive.Activate i)) (mine i r a.comes))
-      works (work.Drive (drive.Deactivate i)) r a = rw a.says (passes _ Deactivate refl refl r (omega arith) a.comes.0 ∙ ap (λ i. driving (drive.Deactivate i)) (mine i r a.comes))
+      works (work.Store i) r a = rw a.says (passes _ Store refl refl r (omega arith) a.comes.0 ∙ ap (λ i. Ok (order.Work (work.Store i))) (mine i r a.comes))
+      works (work.Drive (drive.Activate i)) r a = rw a.says (passes _ Activate refl refl r (omega arith) a.comes.0 ∙ ap (λ i. Ok (driving (drive.Activate i))) (mine i r a.comes))
+      works (work.Drive (drive.Deactivate i)) r a = rw a.says (passes _ Deactivate refl refl r (omega arith) a.comes.0 ∙ ap (λ i. Ok (driving (drive.Deactivate i))) (mine i r a.comes))
       works (work.Drive (drive.Goto level rate)) r a =
           ⊎_elim
-          (λ w. let b = level_back m 0x22 level rate w in passes m Goto (ap verb_of b.0) refl r b.1.0 tt ∙ ap driving b.1.1)
-          (λ w. let b = level_back m 0x23 level rate w.0 in passes m FadeStart (ap verb_of b.0) refl r b.1.0 w.1 ∙ ap driving b.1.1)
+          (λ w. let b = level_back m 0x22 level rate w in passes m Goto (ap verb_of b.0) refl r b.1.0 tt ∙ ap (λ d. Ok (driving d)) b.1.1)
+          (λ w. let b = level_back m 0x23 level rate w.0 in passes m FadeStart (ap verb_of b.0) refl r b.1.0 w.1 ∙ ap (λ d. Ok (driving d)) b.1.1)
           a.says
       works (work.Drive drive.Stop) r a = rw a.says (passes _ FadeStop refl refl r (omega arith) tt)
       works (work.Drive (drive.Blink value)) r a =
@@ -194,10 +214,10 @@ module _ (all : List ℕ) (mode : Mode) (h : Header) where
 
 -- Each number and each order is given exactly when document 01 says.
 pub exactly : JudgedExactly
-exactly o all mode h m = (λ e. subst (λ (o : Order). Judged o all mode h m) e (given all mode h m), only all mode h o m)
+exactly o all mode h m = (λ e. subst (λ (o : Result Order Denied). Judged o all mode h m) e (given all mode h m), only all mode h o m)
 
 -- What an answer says of the packet: for each order by which packets, in which mode and with which message it comes.
-pub asks : (o : Order) (all : List ℕ) (mode : Mode) (h : Header) (m : List ℕ) → judged all mode h m ≡ o → Judged o all mode h m
+pub asks : (o : Result Order Denied) (all : List ℕ) (mode : Mode) (h : Header) (m : List ℕ) → judged all mode h m ≡ o → Judged o all mode h m
 asks o all mode h m = (exactly o all mode h m).0
 
 -- No other number than 9 to 13 is given.
@@ -209,22 +229,30 @@ only_these n all mode h m (wrong_arguments p u) = omega arith
 only_these n all mode h m (not_permitted p u) = omega arith
 
 -- An answer's number is 0, or its row holds.
-row_or_0 : (o : Order) (all : List ℕ) (mode : Mode) (h : Header) (m : List ℕ) → Judged o all mode h m → (number_of_order o ≡ 0) ⊎ Refusal all mode h m (number_of_order o)
-row_or_0 (order.Refused n) all mode h m g = inr g
-row_or_0 (order.Guess guess) all mode h m g = inl refl
-row_or_0 (order.Read first count) all mode h m g = inl refl
-row_or_0 (order.Work w) all mode h m g = inl refl
+row_or_0 : (o : Result Order Denied) (all : List ℕ) (mode : Mode) (h : Header) (m : List ℕ)
+    → Judged o all mode h m → (number_of_order o ≡ 0) ⊎ Refusal all mode h m (number_of_order o)
+row_or_0 (Ok o) all mode h m g = inl refl
+row_or_0 (Err d) all mode h m g = inr g
+
+-- The number of a row is that of its refusal.
+row_number : (n : ℕ) (all : List ℕ) (mode : Mode) (h : Header) (m : List ℕ) → Refusal all mode h m n → number_of_denied (denied_at n) ≡ n
+unfolding denied_at
+row_number n all mode h m (wrong_network u) = refl
+row_number n all mode h m (not_ours p u) = refl
+row_number n all mode h m (not_listed p u) = refl
+row_number n all mode h m (wrong_arguments p u) = refl
+row_number n all mode h m (not_permitted p u) = refl
 
 -- Each number is given exactly when its row of the table says.
 pub number_exactly : NumberExactly
 number_exactly n all mode h m z = (
   λ e. ⊎_elim (λ k. absurd (z (sym e ∙ k))) (λ g. subst (λ (n : ℕ). Refusal all mode h m n) e g) (row_or_0 (judged all mode h m) all mode h m (given all mode h m)),
-  λ g. ap number_of_order (refused all mode h n m g),
+  λ g. ap number_of_order (refused all mode h n m g) ∙ row_number n all mode h m g,
 )
 
 -- The examples.
 pub in_order : ChecksInOrder
-unfolding judged commanded verb_of suits arguments registers_in_range
+unfolding judged commanded verb_of suits arguments registers_in_range denied_at
 in_order all mode h r =
     let heard = hearing all mode h r in
     let there = reaching all mode h r in
@@ -241,16 +269,16 @@ in_order all mode h r =
     }
 
 -- The matching component is one of the sixteen.
-seek_below : (all : List ℕ) (link i n j : ℕ) → seek all link i n ≡ At j → j < i + n
+seek_below : (all : List ℕ) (link i n j : ℕ) → seek all link i n ≡ Some j → j < i + n
 unfolding seek
 seek_below all link i zero j = λ e. let z : ◌≡◌ {A = ℕ} 0 1 = cc in absurd (omega arith)
 seek_below all link i (suc n) j =
-    cases (λ (f : Found). f ≡ At j → j < i + suc n) (eqb (get_or all (link_place i) 0) link)
+    cases (λ (f : Option ℕ). f ≡ Some j → j < i + suc n) (eqb (get_or all (link_place i) 0) link)
     (λ k e. let same : i ≡ j = cc in omega arith)
     (λ k e. let below = seek_below all link (i + 1) n j e in omega arith)
 
-pub component_below : (all : List ℕ) (link i : ℕ) → found all link ≡ At i → i < components
+pub component_below : (all : List ℕ) (link i : ℕ) → found all link ≡ Some i → i < components
 unfolding found
 component_below all link i =
-    cases (λ (f : Found). f ≡ At i → i < components) (valid link) (λ k. seek_below all link 0 components i)
+    cases (λ (f : Option ℕ). f ≡ Some i → i < components) (valid link) (λ k. seek_below all link 0 components i)
     (λ k e. let z : ◌≡◌ {A = ℕ} 0 1 = cc in absurd (omega arith))

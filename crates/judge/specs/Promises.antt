@@ -49,7 +49,6 @@ Any = Unit {0}
 -- 01, Commands, 1 to 4: a row for each order that is to be done. Packets come by link, direct to our own unit, direct (destination 0 too),
 -- or by any way; Start Setup comes in Normal, Set and Stop Setup in Setup, the rest in any mode.
 abbrev pub Asked : Order → List ℕ → Mode → Header → List ℕ → Type 0
-Asked (order.Refused n) all mode h m = ⊥
 Asked (order.Guess guess) all mode h m = Terms (ToUs all h) (mode ≡ Normal) (m ≡ 0x03 ∷ guess.0 ∷ guess.1 ∷ [])
 Asked (order.Read first count) all mode h m = Terms (AskedToReply all h) Any ((m ≡ 0x10 ∷ first ∷ count ∷ []) × Range first count)
 Asked (order.Work work.Report) all mode h m = Terms (AskedToReply all h) Any (m ≡ 0x30 ∷ [])

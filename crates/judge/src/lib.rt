@@ -3,7 +3,7 @@
 #![tactic(auto)]
 
 ghost use Rattle.std.specs.Prelude.{◌≡◌};
-ghost use Rattle.judge.specs.Judge.{driving, going, ordered, commanded, judged};
+ghost use Rattle.judge.specs.Judge.{number_of_denied, driving, going, ordered, commanded, judged};
 
 use levels::Options;
 use packet::Header;
@@ -11,11 +11,37 @@ use reach::{Target, heard, permitted, target_of};
 use vault::{Mode, Password};
 use verbs::{Verb, argument, optional, verb_of};
 
-// What is to be done: the refusal's number, a guess to be compared with the password (Start Setup), a range of registers to be read (Get
-// Registers), or work that the password has no part in.
+// What a packet is refused for: its network, its destination, its command, its arguments, what else the command asks, or a wrong password,
+// which is not found here.
+#[derive(Clone, Copy, Debug, PartialEq, Eq)]
+pub enum Denied {
+    Network,
+    Destination,
+    Command,
+    Arguments,
+    Circumstances,
+    Password,
+}
+
+impl Denied {
+    pub fn number(self) -> u8
+        ensures { result ≡ number_of_denied self }
+    {
+        match self {
+            Denied::Network => 9,
+            Denied::Destination => 10,
+            Denied::Command => 11,
+            Denied::Arguments => 12,
+            Denied::Circumstances => 13,
+            Denied::Password => 14,
+        }
+    }
+}
+
+// What is to be done: a guess to be compared with the password (Start Setup), a range of registers to be read (Get Registers), or work that
+// the password has no part in.
 #[derive(Clone, Copy)]
 pub enum Order {
-    Refused(u8),
     Guess(Password),
     Read { first: u8, count: u8 },
     Work(Work),
@@ -45,21 +71,23 @@ pub enum Drive {
 // What stands for a missing rate.
 const DEFAULT: u8 = 255;
 
-pub fn judge(all: &[u8; 256], mode: Mode, header: Header, message: &[u8]) -> Order
+#[tactic(auto, unfolding(crate::specs::Judge::judged))]
+pub fn judge(all: &[u8; 256], mode: Mode, header: Header, message: &[u8]) -> Result<Order, Denied>
     ensures { result ≡ judged all.now mode header message.now }
 {
     if !heard(all, header.network) {
-        return Order::Refused(9);
+        return Err(Denied::Network);
     }
     let target = target_of(all, header);
     if !target.reached() {
-        return Order::Refused(10);
+        return Err(Denied::Destination);
     }
     let verb = verb_of(argument(message, 0));
     commanded(all, mode, header.source, target, verb, message)
 }
 
 // The checks from 11 on.
+#[tactic(auto, unfolding(crate::specs::Judge::commanded))]
 fn commanded(
     all: &[u8; 256],
     mode: Mode,
@@ -67,26 +95,27 @@ fn commanded(
     target: Target,
     verb: Verb,
     message: &[u8],
-) -> Order
+) -> Result<Order, Denied>
     ensures { result ≡ commanded all.now mode source target verb message.now }
 {
     if !verb.listed() {
-        return Order::Refused(11);
+        return Err(Denied::Command);
     }
     if !verb.suits(message) {
-        return Order::Refused(12);
+        return Err(Denied::Arguments);
     }
     let options = Options::of(places::dimming(all));
     if !permitted(verb, target, mode, source, options.capable) {
-        return Order::Refused(13);
+        return Err(Denied::Circumstances);
     }
     ordered(verb, target, message)
 }
 
-fn ordered(verb: Verb, target: Target, message: &[u8]) -> Order
+#[tactic(auto, unfolding(crate::specs::Judge::ordered))]
+fn ordered(verb: Verb, target: Target, message: &[u8]) -> Result<Order, Denied>
     ensures { result ≡ ordered verb target message.now }
 {
-    match verb {
+    let order = match verb {
         Verb::Open => Order::Guess(Password(argument(message, 1), argument(message, 2))),
         Verb::Close => Order::Work(Work::Close),
         Verb::Get => Order::Read {
@@ -98,14 +127,14 @@ fn ordered(verb: Verb, target: Target, message: &[u8]) -> Order
         }),
         Verb::Activate => driving(Drive::Activate(target.component())),
         Verb::Deactivate => driving(Drive::Deactivate(target.component())),
-        Verb::Goto => driving(going(message)),
-        Verb::FadeStart => driving(going(message)),
+        Verb::Goto | Verb::FadeStart => driving(going(message)),
         Verb::FadeStop => driving(Drive::Stop),
         Verb::Blink => driving(Drive::Blink(optional(message, 1, 0))),
         Verb::Report => Order::Work(Work::Report),
         Verb::Store => Order::Work(Work::Store(target.component())),
-        Verb::Unlisted => Order::Refused(11),
-    }
+        Verb::Unlisted => return Err(Denied::Command),
+    };
+    Ok(order)
 }
 
 fn driving(drive: Drive) -> Order

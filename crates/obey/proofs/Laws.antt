@@ -1,5 +1,5 @@
 -- What each kind of order keeps, so that the signal alone is left to it, and how its reply is told by its length.
-use Rattle.std.specs.Prelude.{◌≡◌, ℕ, ◌≤◌, List, [], ◌∷◌, length}
+use Rattle.std.specs.Prelude.{◌≡◌, ℕ, ◌≤◌, List, [], ◌∷◌, length, Option, None}
 use mathlib.Core.Path.{refl, sym, ap, ◌∙◌}
 use native.Mathlib.Omega.{arith}
 use borrow.Author.Tests.{eq-eqb, ne_eqb}
@@ -18,8 +18,6 @@ use Rattle.lamp.specs.declared.Lamp.{Lamp}
 use Rattle.dimmer.specs.declared.Dimmer.{Dimmer}
 use Rattle.model.specs.Model.{place}
 use Rattle.writes.specs.Writes.{applied, change_of, change_at}
-use Rattle.registers.specs.declared.Seen.{Seen}
-use Rattle.registers.specs.declared.Seen.TheVariants as seen
 use Rattle.places.specs.declared.Counter.TheVariants.{Setups}
 use Rattle.writes.specs.declared.Write.{Write}
 use Rattle.writes.specs.declared.Write.TheVariants as write
@@ -109,7 +107,7 @@ pub sets_both :
 sets_both first values n all v w all' n' read after done kept = record { numbered = kept ∙ rw (after, read); registers = done }
 
 -- No reply: nothing is laid.
-pub silent : (all : List ℕ) (s : Seen) (to : ℕ) (p : Percent) (out : List ℕ) → Laid (replied all s to reply.Silence p) out 0 out
+pub silent : (all : List ℕ) (s : Option Password) (to : ℕ) (p : Percent) (out : List ℕ) → Laid (replied all s to reply.Silence p) out 0 out
 unfolding replied reply_message enveloped
 silent all s to p out = nothing_laid out
 
@@ -120,8 +118,8 @@ module _ (asked : Work) (values : List ℕ) (source : ℕ) (c n all out : List �
       → asked ≡ work.Report
       → level ≡ level_in n
       → p ≡ percent_of level
-      → Laid (replied all seen.Hidden source reply.Status p) out size out'
-      → Obeys (performed all asked (core_of c n)) values source (reply_to asked) seen.Hidden c n all out size c n all out'
+      → Laid (replied all None source reply.Status p) out size out'
+      → Obeys (performed all asked (core_of c n)) values source (reply_to asked) None c n all out size c n all out'
   unfolding performed unwritten reply_to core_of dimmer_of applied change_of change_at changed became
   reports level p size out' told read percent laid =
       rw told record { ready = ready_same c n; registers = refl; laid = rw (percent, read) at laid }
@@ -130,7 +128,7 @@ module _ (asked : Work) (values : List ℕ) (source : ℕ) (c n all out : List �
       (c' n' : List ℕ)
       → asked ≡ work.Close
       → Ready (entering Normal (core_of c n)) (password_of n) c n c' n'
-      → Obeys (performed all asked (core_of c n)) values source (reply_to asked) seen.Hidden c n all out 0 c' n' all out
+      → Obeys (performed all asked (core_of c n)) values source (reply_to asked) None c n all out 0 c' n' all out
   unfolding performed unwritten reply_to applied change_of change_at changed became
   closes c' n' told ready = rw told record { ready = ready; registers = refl; laid = silent _ _ _ _ out }
 
@@ -138,7 +136,7 @@ module _ (asked : Work) (values : List ℕ) (source : ℕ) (c n all out : List �
       (first : ℕ) (n' all' : List ℕ)
       → asked ≡ work.Set first
       → Sets first values n all n' all'
-      → Obeys (performed all asked (core_of c n)) values source (reply_to asked) seen.Hidden c n all out 0 c n' all' out
+      → Obeys (performed all asked (core_of c n)) values source (reply_to asked) None c n all out 0 c n' all' out
   unfolding performed reply_to
   sets first n' all' told done =
       rw told record { ready = ready_password _ c n n' done.numbered; registers = done.registers; laid = silent _ _ _ _ out }
@@ -149,7 +147,7 @@ module _ (asked : Work) (values : List ℕ) (source : ℕ) (c n all out : List �
       → level ≡ level_in n
       → write ≡ stored level i
       → all' ≡ applied write [] all
-      → Obeys (performed all asked (core_of c n)) values source (reply_to asked) seen.Hidden c n all out 0 c n all' out
+      → Obeys (performed all asked (core_of c n)) values source (reply_to asked) None c n all out 0 c n all' out
   unfolding performed reply_to stored core_of dimmer_of applied change_of change_at changed became
   stores i level write all' told read chosen done =
       rw told record { ready = ready_same c n; registers = done ∙ rw (chosen, read); laid = silent _ _ _ _ out }
@@ -158,7 +156,7 @@ module _ (asked : Work) (values : List ℕ) (source : ℕ) (c n all out : List �
       (d : Drive) (c' n' : List ℕ)
       → asked ≡ work.Drive d
       → DimmerKept (driven all d (dimmer_of c n)) c n c' n'
-      → Obeys (performed all asked (core_of c n)) values source (reply_to asked) seen.Hidden c n all out 0 c' n' all out
+      → Obeys (performed all asked (core_of c n)) values source (reply_to asked) None c n all out 0 c' n' all out
   unfolding performed unwritten reply_to core_of applied change_of change_at changed became
   drives d c' n' told kept =
       rw told record { ready = ready_driven _ c n c' n' kept; registers = refl; laid = silent _ _ _ _ out }
@@ -168,10 +166,6 @@ module _ (asked : Order) (values : List ℕ) (source : ℕ) (c n all out : List 
   abbrev Done : ℕ → List ℕ → List ℕ → List ℕ → List ℕ → Type 0
   Done size c' n' all' out' =
       Obeys (effect_of all asked (core_of c n)) values source (reply_of asked) (seen_of asked (mode_in n) (password_of n)) c n all out size c' n' all' out'
-
-  pub refuses : (number : ℕ) → asked ≡ order.Refused number → Done 0 c n all out
-  unfolding effect_of unwritten reply_of seen_of applied change_of change_at changed became
-  refuses number told = rw told record { ready = ready_same c n; registers = refl; laid = silent _ _ _ _ out }
 
   pub opens :
       (guess : Password) (all' c' n' : List ℕ)
@@ -183,7 +177,7 @@ module _ (asked : Order) (values : List ℕ) (source : ℕ) (c n all out : List 
   opens guess all' c' n' told done ready = rw told record { ready = ready; registers = done; laid = silent _ _ _ _ out }
 
   pub reads :
-      (first count : ℕ) (level : Step) (p : Percent) (mode : Mode) (w : Password) (s : Seen) (size : ℕ) (out' : List ℕ)
+      (first count : ℕ) (level : Step) (p : Percent) (mode : Mode) (w : Password) (s : Option Password) (size : ℕ) (out' : List ℕ)
       → asked ≡ order.Read first count
       → level ≡ level_in n
       → p ≡ percent_of level
@@ -199,7 +193,7 @@ module _ (asked : Order) (values : List ℕ) (source : ℕ) (c n all out : List 
   pub works :
       (o : Work) (size : ℕ) (c' n' all' out' : List ℕ)
       → asked ≡ order.Work o
-      → Obeys (performed all o (core_of c n)) values source (reply_to o) seen.Hidden c n all out size c' n' all' out'
+      → Obeys (performed all o (core_of c n)) values source (reply_to o) None c n all out size c' n' all' out'
       → Done size c' n' all' out'
   unfolding effect_of reply_of seen_of
   works o size c' n' all' out' told done = rw told done
@@ -213,14 +207,14 @@ some_sent : (h : Header) (b : ℕ) (bs : List ℕ) (n : ℕ) → n ≡ length (f
 unfolding enveloped front hue_by
 some_sent h b bs n e = rw (ne_eqb n 0 (λ z. omega (arith, packed_length h (b ∷ bs))))
 
-hue_sent : (all : List ℕ) (s : Seen) (to : ℕ) (r : Reply) (p : Percent) (n : ℕ) → n ≡ length (front (replied all s to r p)) → hue_by n ≡ hue_of r
+hue_sent : (all : List ℕ) (s : Option Password) (to : ℕ) (r : Reply) (p : Percent) (n : ℕ) → n ≡ length (front (replied all s to r p)) → hue_by n ≡ hue_of r
 unfolding replied reply_message bytes_of values_from hue_of
 hue_sent all s to reply.Silence p n e = none_sent _ n e
 hue_sent all s to reply.Status p n e = some_sent _ _ _ n e
 hue_sent all s to (reply.Registers first count) p n e = some_sent _ _ _ n e
 
 pub hue_told :
-    (all : List ℕ) (s : Seen) (to : ℕ) (r : Reply) (p : Percent) (out out' : List ℕ) (n : ℕ)
+    (all : List ℕ) (s : Option Password) (to : ℕ) (r : Reply) (p : Percent) (out out' : List ℕ) (n : ℕ)
     → place ≤ length out → Laid (replied all s to r p) out n out' → hue_by n ≡ hue_of r
 hue_told all s to r p out out' n room laid =
     hue_sent all s to r p n (laid_fits (replied all s to r p) out out' n (reply_fits all s to r p) room laid)

@@ -1,5 +1,5 @@
 -- What the code and the proofs are cut by: no promise under the roof needs a definition of this file.
-use Rattle.std.specs.Prelude.{◌≡◌, ℕ, List, ◌==◌, if◌then◌else◌}
+use Rattle.std.specs.Prelude.{◌≡◌, ℕ, List, ◌==◌, if◌then◌else◌, Option}
 use Rattle.units.specs.Units.{percent_of}
 use Rattle.lamp.specs.declared.Colour.{Colour}
 use Rattle.lamp.specs.declared.Colour.TheVariants.{Green, Red}
@@ -16,7 +16,6 @@ use Rattle.post.specs.declared.Reply.{Reply}
 use Rattle.post.specs.declared.Reply.TheVariants as reply
 use Rattle.writes.specs.Writes.{applied, change_of}
 use Rattle.writes.specs.declared.Write.TheVariants.{Values}
-use Rattle.registers.specs.declared.Seen.{Seen}
 use Rattle.judge.specs.declared.Order.{Order}
 use Rattle.judge.specs.declared.Order.TheVariants as order
 use Rattle.state.specs.State.{lamp_of, password_of}
@@ -25,14 +24,12 @@ use Rattle.obey.specs.Obey.{reply_to}
 
 -- What a granted order does.
 unfoldable pub effect_of : List ℕ → Order → Core → Effect
-effect_of all (order.Refused n) c = unwritten c
 effect_of all (order.Guess guess) c = opened c
 effect_of all (order.Read first count) c = unwritten c
 effect_of all (order.Work o) c = performed all o c
 
 -- What it is answered with.
 unfoldable pub reply_of : Order → Reply
-reply_of (order.Refused n) = reply.Silence
 reply_of (order.Guess guess) = reply.Silence
 reply_of (order.Read first count) = reply.Registers first count
 reply_of (order.Work o) = reply_to o
@@ -48,7 +45,7 @@ pub record Ready (k : Core) (w : Password) (counters numbers counters' numbers' 
   pub numbered : (l : Lamp) → kept_hue l.hue numbers' ≡ kept_numbers (core k.mode k.dimmer l k.save) w numbers
 
 -- An act is done but for its signal, and its reply is laid.
-pub record Obeys (e : Effect) (values : List ℕ) (source : ℕ) (r : Reply) (s : Seen) (counters numbers all out : List ℕ) (size : ℕ) (counters' numbers' all' out' : List ℕ) : Type 0 where
+pub record Obeys (e : Effect) (values : List ℕ) (source : ℕ) (r : Reply) (s : Option Password) (counters numbers all out : List ℕ) (size : ℕ) (counters' numbers' all' out' : List ℕ) : Type 0 where
   pub ready : Ready e.core (changed (change_of e.write values) (password_of numbers)) counters numbers counters' numbers'
   pub registers : all' ≡ applied e.write values all
   pub laid : Laid (replied all' s source r (percent_of e.core.dimmer.level)) out size out'

@@ -3,7 +3,6 @@
 
 ghost use Rattle.std.specs.Prelude.{◌≡◌};
 ghost use Rattle.lamp.specs.Lamp.{signal_set};
-ghost use Rattle.registers.specs.declared.Seen.TheVariants.{Hidden};
 ghost use Rattle.acts.specs.Core.{entering};
 ghost use Rattle.orders.specs.Orders.{driven, performed};
 ghost use Rattle.state.specs.State.{core_of, dimmer_of, lamp_of, mode_in, password_of};
@@ -17,7 +16,6 @@ use lamp::Colour;
 use orders::{drive, stored};
 use places::Counter;
 use post::Reply;
-use registers::Seen;
 use state::parts::{
     dimmer_of, keep_dimmer, keep_lamp, keep_mode, keep_password, lamp_of, level_in, mode_in,
     password_of,
@@ -40,7 +38,6 @@ pub fn obey(
     ensures { Obeys (effect_of all.old order (core_of counters.old numbers.old)) values.now source (reply_of order) (seen_of order (mode_in numbers.old) (password_of numbers.old)) counters.old numbers.old all.old out.old result counters.new numbers.new all.new out.new }
 {
     match order {
-        Order::Refused(_) => 0,
         Order::Guess(_) => {
             apply(Write::Count(Counter::Setups), b"", all);
             enter(Mode::Setup, counters, numbers);
@@ -65,12 +62,12 @@ fn perform(
     all: &mut [u8; 256],
     out: &mut [u8],
 ) -> u8
-    ensures { Obeys (performed all.old work (core_of counters.old numbers.old)) values.now source (reply_to work) Hidden counters.old numbers.old all.old out.old result counters.new numbers.new all.new out.new }
+    ensures { Obeys (performed all.old work (core_of counters.old numbers.old)) values.now source (reply_to work) None counters.old numbers.old all.old out.old result counters.new numbers.new all.new out.new }
 {
     match work {
         Work::Report => {
             let percent = level_in(numbers).percent();
-            post::send(all, Seen::Hidden, source, Reply::Status, percent, out)
+            post::send(all, None, source, Reply::Status, percent, out)
         }
         Work::Close => {
             enter(Mode::Normal, counters, numbers);
@@ -102,6 +99,7 @@ fn enter(mode: Mode, counters: &mut [u16; COUNTERS], numbers: &mut [u8; NUMBERS]
 }
 
 // Registers are set, the password's two bytes among them.
+#[tactic(auto, using(crate::proofs::Laws::sets_both))]
 fn set(first: u8, values: &[u8], numbers: &mut [u8; NUMBERS], all: &mut [u8; 256])
     ensures { Sets first values.now numbers.old all.old numbers.new all.new }
 {
@@ -132,6 +130,7 @@ pub fn signal(hue: Colour, counters: &mut [u16; COUNTERS], numbers: &mut [u8; NU
 }
 
 // Its colour for a packet that is answered 0: green, and red where a reply is sent.
+#[tactic(auto, unfolding(crate::specs::Code::hue_by))]
 pub fn hue_of(length: u8) -> Colour
     ensures { result ≡ hue_by length }
 {

@@ -7,12 +7,13 @@ use native.Mathlib.Omega.{arith}
 use borrow.Author.Tests.{ne_eqb}
 use lib.ListN.{length, take, drop, length-append, length-drop, length-take, take-append-drop, drop_of_length-le}
 use lib.Seq.{drop-append-le, take_all, take-append-add, drop-append-add}
+use Rattle.std.specs.Prelude.{Option}
 use Rattle.words.proofs.Laws.{two_ways}
 use Rattle.units.specs.declared.Percent.{Percent}
 use Rattle.packet.specs.Layout.{packed}
 use Rattle.packet.specs.declared.Header.{Header}
 use Rattle.packet.proofs.Laws.{packed_length}
-use Rattle.registers.specs.declared.Seen.{Seen}
+use Rattle.vault.specs.declared.Password.{Password}
 use Rattle.post.specs.declared.Note.{Note}
 use Rattle.post.specs.declared.Reply.{Reply}
 use Rattle.post.specs.Post.{headed, enveloped, bytes_of, reply_message, replied, placed_one}
@@ -102,7 +103,7 @@ pub note_next : (n : Note) (packets : List (List ℕ)) (before : List ℕ)
 unfolding sent_of
 note_next n = message_next (note_header n) (bytes_of n.message)
 
-pub reply_placed : (all : List ℕ) (seen : Seen) (to : ℕ) (reply : Reply) (p : Percent) (before : List ℕ)
+pub reply_placed : (all : List ℕ) (seen : Option Password) (to : ℕ) (reply : Reply) (p : Percent) (before : List ℕ)
     → placed_at 0 (front (replied all seen to reply p)) before ≡ placed (replied all seen to reply p) before
 unfolding replied placed
 reply_placed all seen to reply p before = message_next (headed all false to) (reply_message all seen reply p) [] before

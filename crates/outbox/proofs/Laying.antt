@@ -9,11 +9,12 @@ use borrow.Author.Tests.{lt-ltb}
 use lib.Dec.{ltb, eqb}
 use lib.ListN.{length, get_or, take, drop, set, length-append, length-set, length-drop, length-take, drop_of_length-le}
 use lib.Seq.{take-suc, take-suc-set, take_all}
+use Rattle.std.specs.Prelude.{Option}
 use Rattle.words.proofs.Laws.{both, cases, one_outcome, two_ways}
 use Rattle.units.specs.declared.Percent.{Percent}
 use Rattle.model.specs.Model.{paddle_count, place}
 use Rattle.packet.specs.declared.Header.{Header}
-use Rattle.registers.specs.declared.Seen.{Seen}
+use Rattle.vault.specs.declared.Password.{Password}
 use Rattle.post.specs.declared.Note.{Note}
 use Rattle.post.specs.declared.Reply.{Reply}
 use Rattle.outbox.specs.declared.Sent.{Sent}
@@ -59,13 +60,13 @@ lone_message h m =
     let count = message_count h m in
     λ i. record { lengths = lengths i; count = sym count i }
 
-pub lone_reply : (all : List ℕ) (seen : Seen) (to : ℕ) (reply : Reply) (p : Percent)
+pub lone_reply : (all : List ℕ) (seen : Option Password) (to : ℕ) (reply : Reply) (p : Percent)
     → lone (length (front (replied all seen to reply p))) ≡ tally (replied all seen to reply p)
 unfolding replied
 lone_reply all seen to reply p = lone_message (headed all false to) (reply_message all seen reply p)
 
 -- A reply laid and counted as one packet is all that an event sends.
-pub reply_sends : (all : List ℕ) (seen : Seen) (to : ℕ) (reply : Reply) (p : Percent) (before after : List ℕ) (n : ℕ) (r : Sent) → place ≤ length before
+pub reply_sends : (all : List ℕ) (seen : Option Password) (to : ℕ) (reply : Reply) (p : Percent) (before after : List ℕ) (n : ℕ) (r : Sent) → place ≤ length before
     → Laid (replied all seen to reply p) before n after → r ≡ lone n → Sends (replied all seen to reply p) before r after
 reply_sends all seen to reply p before after n r room laid e =
     let sent = replied all seen to reply p in

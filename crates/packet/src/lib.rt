@@ -3,7 +3,7 @@
 
 ghost use Rattle.std.specs.Prelude.{◌≡◌, ◌%◌};
 ghost use Rattle.packet.specs.Layout.{whole_in, reserved_in, header_in, total};
-ghost use Rattle.packet.specs.Reading.{read_of, number_of_frame, message_from};
+ghost use Rattle.packet.specs.Reading.{read_of, number_of_flaw, number_of_frame, message_from};
 
 // The shortest and the longest packet.
 const LEAST: usize = 7;
@@ -33,10 +33,9 @@ pub struct Header {
     pub source: u8,
 }
 
-// The reader's answer: the header, or one of the numbers 4 to 8.
-#[derive(Clone, Copy)]
-pub enum Frame {
-    Read(Header),
+// Why the reader refuses a packet: the numbers 4 to 8.
+#[derive(Clone, Copy, Debug, PartialEq, Eq)]
+pub enum Flaw {
     Short,
     Long,
     Length,
@@ -44,58 +43,61 @@ pub enum Frame {
     Reserved,
 }
 
-impl Frame {
+impl Flaw {
     pub fn number(self) -> u8
-        ensures { result ≡ number_of_frame self }
+        ensures { result ≡ number_of_flaw self }
     {
         match self {
-            Frame::Read(_) => 0,
-            Frame::Short => 4,
-            Frame::Long => 5,
-            Frame::Length => 6,
-            Frame::Sum => 7,
-            Frame::Reserved => 8,
+            Flaw::Short => 4,
+            Flaw::Long => 5,
+            Flaw::Length => 6,
+            Flaw::Sum => 7,
+            Flaw::Reserved => 8,
         }
     }
 }
 
+// The number of the reader's answer: 0 for a header.
+pub fn number(frame: Result<Header, Flaw>) -> u8
+    ensures { result ≡ number_of_frame frame }
+{
+    match frame {
+        Ok(_) => 0,
+        Err(flaw) => flaw.number(),
+    }
+}
+
 // Checks the packet and takes its header out.
-pub fn read(packet: &[u8]) -> Frame
+#[tactic(auto, unfolding(crate::specs::Reading::read_of))]
+pub fn read(packet: &[u8]) -> Result<Header, Flaw>
     ensures { result ≡ read_of packet.now }
 {
     let size = packet.len();
     if size < LEAST {
-        return Frame::Short;
+        return Err(Flaw::Short);
     }
     if MOST < size {
-        return Frame::Long;
+        return Err(Flaw::Long);
     }
     let first = packet[0];
-    let whole = whole(first);
-    if whole as usize != size {
-        return Frame::Length;
+    if whole(first) as usize != size {
+        return Err(Flaw::Length);
     }
-    let sum = sum(packet);
-    if sum != 0 {
-        return Frame::Sum;
+    if sum(packet) != 0 {
+        return Err(Flaw::Sum);
     }
     let second = packet[1];
-    let reserved = reserved(second);
-    if reserved != 0 {
-        return Frame::Reserved;
+    if reserved(second) != 0 {
+        return Err(Flaw::Reserved);
     }
-    let network = packet[2];
-    let destination = packet[3];
-    let source = packet[4];
-    let header = fields(first, second, network, destination, source);
-    Frame::Read(header)
+    Ok(fields(first, second, packet[2], packet[3], packet[4]))
 }
 
 // The message, lent out of the caller's packet, by what the reader answered to it; empty where that is a refusal.
-pub fn message(frame: Frame, packet: &[u8]) -> &[u8]
+pub fn message(frame: Result<Header, Flaw>, packet: &[u8]) -> &[u8]
     ensures { result.now ≡ message_from frame packet.now }
 {
-    let Frame::Read(_) = frame else {
+    let Ok(_) = frame else {
         return &packet[..0];
     };
     let size = packet.len();
@@ -139,11 +141,5 @@ fn fields(first: u8, second: u8, network: u8, destination: u8, source: u8) -> He
 pub fn sum(bytes: &[u8]) -> u8
     ensures { result ≡ total bytes.now % 256 }
 {
-    let mut sum: u16 = 0;
-    let mut i = 0;
-    while i < bytes.len() {
-        sum = (sum + bytes[i] as u16) % 256;
-        i += 1;
-    }
-    sum as u8
+    bytes.iter().fold(0u8, |sum, byte| sum.wrapping_add(*byte))
 }

@@ -6,13 +6,14 @@ use Prim.Native.Nat.{ℕ, ◌+◌, ◌≤◌, ◌<◌, min}
 use native.Mathlib.Omega.{arith}
 use lib.Dec.{ltb}
 use lib.ListN.{length, drop, length-append, length-drop}
+use Rattle.std.specs.Prelude.{Option}
 use Rattle.words.proofs.Laws.{tests, both, one_outcome, two_ways}
 use Rattle.units.specs.declared.Percent.{Percent}
 use Rattle.packet.specs.Layout.{header}
 use Rattle.writer.specs.Promises.{Ranges}
 use Rattle.packet.specs.declared.Header.{Header}
 use Rattle.packet.proofs.Laws.{packed_length}
-use Rattle.registers.specs.declared.Seen.{Seen}
+use Rattle.vault.specs.declared.Password.{Password}
 use Rattle.post.specs.declared.Message.{Message}
 use Rattle.post.specs.declared.Message.TheVariants.{Empty, One, Two, Three}
 use Rattle.post.specs.declared.Note.{Note}
@@ -104,18 +105,18 @@ unfolding sent_of
 note_fits n = front_length (note_header n) (bytes_of n.message) (omega (arith, few_bytes n.message))
 
 -- The message of values is two bytes and the values, 18 bytes at most.
-pub values_length : (all : List ℕ) (seen : Seen) (first count : ℕ) → length (values_from all seen first count) ≡ 2 + min 16 count
+pub values_length : (all : List ℕ) (seen : Option Password) (first count : ℕ) → length (values_from all seen first count) ≡ 2 + min 16 count
 unfolding values_from
 values_length all seen first count = omega (arith, range_length all seen first (min 16 count))
 
 -- A reply's message has at most 18 bytes, so that its packet fits into a place.
-pub reply_most : (all : List ℕ) (seen : Seen) (reply : Reply) (p : Percent) → length (reply_message all seen reply p) ≤ 18
+pub reply_most : (all : List ℕ) (seen : Option Password) (reply : Reply) (p : Percent) → length (reply_message all seen reply p) ≤ 18
 unfolding reply_message bytes_of
 reply_most all seen Silence p = omega arith
 reply_most all seen Status p = omega arith
 reply_most all seen (Registers first count) p = omega (arith, values_length all seen first count)
 
-pub reply_fits : (all : List ℕ) (seen : Seen) (to : ℕ) (reply : Reply) (p : Percent) → length (front (replied all seen to reply p)) ≤ place
+pub reply_fits : (all : List ℕ) (seen : Option Password) (to : ℕ) (reply : Reply) (p : Percent) → length (front (replied all seen to reply p)) ≤ place
 unfolding replied
 reply_fits all seen to reply p = front_length (headed all false to) (reply_message all seen reply p) (reply_most all seen reply p)
 

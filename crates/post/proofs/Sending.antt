@@ -5,14 +5,15 @@ use mathlib.Core.Path.{◌≡◌, refl, ap}
 use Prim.Native.Nat.{ℕ, ◌≤◌}
 use native.Mathlib.Omega.{arith}
 use lib.ListN.{length}
+use Rattle.std.specs.Prelude.{Option}
 use Rattle.units.specs.declared.Percent.{Percent}
 use Rattle.packet.specs.Layout.{header}
 use Rattle.packet.specs.declared.Header.{Header}
 use Rattle.packet.proofs.Laws.{packed_length}
 use Rattle.writer.proofs.Inverse.{reads_back, worked}
+use Rattle.vault.specs.declared.Password.{Password}
 use Rattle.places.specs.Places.{network_in, unit_in}
 use Rattle.registers.specs.Registers.{apart}
-use Rattle.registers.specs.declared.Seen.{Seen}
 use Rattle.post.specs.declared.Reply.{Reply}
 use Rattle.post.specs.declared.Reply.TheVariants.{Silence, Status, Registers}
 use Rattle.post.specs.Post.{enveloped, bytes_of, values_from, reply_message, replied}
@@ -49,7 +50,7 @@ enveloped_one h [] = omega arith
 enveloped_one h (b ∷ bs) = omega arith
 
 -- No reply depends on what the array holds at 0x02 and 0x03.
-pub replied_apart : (all : List ℕ) (seen : Seen) (to : ℕ) (reply : Reply) (p : Percent)
+pub replied_apart : (all : List ℕ) (seen : Option Password) (to : ℕ) (reply : Reply) (p : Percent)
     → replied (apart all) seen to reply p ≡ replied all seen to reply p
 unfolding replied reply_message values_from
 replied_apart all seen to Silence p = rw (apart_other all 0 refl, apart_other all 1 refl)

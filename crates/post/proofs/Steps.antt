@@ -1,7 +1,9 @@
 -- What the proofs of the functions lean on: the writer's promise as a promise of laying, and a buffer with values read into it.
+use Rattle.std.specs.Prelude.{Result, Ok, Err, Option}
+use Rattle.std.specs.Result.{result_unwrap_or}
 use mathlib.Core.Bool.{Bool}
 use mathlib.Core.List.{List, [], ◌∷◌, ◌++◌}
-use mathlib.Core.Path.{◌≡◌, refl, sym, ◌∙◌, subst}
+use mathlib.Core.Path.{◌≡◌, sym, ◌∙◌, subst}
 use Prim.Native.Nat.{ℕ, suc, ◌+◌, ◌-◌, ◌≤◌, min}
 use native.Mathlib.Omega.{arith}
 use lib.ListN.{length, take, replicate, length-append, length-take}
@@ -9,12 +11,12 @@ use lib.Seq.{take_at, length-take-le}
 use Rattle.packet.specs.Layout.{header, packed}
 use Rattle.writer.specs.Writing.{Wrote, laid}
 use Rattle.packet.specs.declared.Header.{Header}
-use Rattle.writer.specs.declared.Written.{Written}
-use Rattle.writer.specs.declared.Written.TheVariants.{Packet, Field, Short}
+use Rattle.writer.specs.declared.Unwritten.{Unwritten}
+use Rattle.writer.specs.declared.Unwritten.TheVariants.{Field, Short}
 use Rattle.writer.proofs.Laws.{written_length, exactly_written}
 use Rattle.packet.proofs.Laws.{packed_length}
+use Rattle.vault.specs.declared.Password.{Password}
 use Rattle.registers.specs.Registers.{range_of}
-use Rattle.registers.specs.declared.Seen.{Seen}
 use Rattle.post.specs.Post.{enveloped, values_from}
 use Rattle.registers.proofs.Laws.{range_length}
 use Rattle.post.proofs.Laws.{own_ranges, laid_short, placed_short, laid_whole, placed_whole, nothing_laid}
@@ -22,11 +24,11 @@ use Rattle.post.specs.Code.{front, Laid}
 
 -- The writer's promise, for a message of at most 18 bytes, is what laying its packets promises.
 module _ (link : Bool) (network destination source : ℕ) (before after : List ℕ) where
-  pub wrote_packet : (m : List ℕ) (n : ℕ) → Wrote (header link network destination source) m before (Packet n) after
-      → Laid (enveloped (header link network destination source) m) before n after
+  pub wrote_laid : (m : List ℕ) (answer : Result ℕ Unwritten) → length m ≤ 18 → Wrote (header link network destination source) m before answer after
+      → Laid (enveloped (header link network destination source) m) before (result_unwrap_or answer 0) after
   unfolding enveloped front laid
-  wrote_packet [] n w = let l = written_length (header link network destination source) [] before after n w in absurd (omega arith)
-  wrote_packet (b ∷ bs) n w =
+  wrote_laid [] (Ok n) most w = let l = written_length (header link network destination source) [] before after n w in absurd (omega arith)
+  wrote_laid (b ∷ bs) (Ok n) most w =
       let h = header link network destination source in
       let l = written_length h (b ∷ bs) before after n w in
       let long : length (packed h (b ∷ bs)) ≡ n = packed_length h (b ∷ bs) ∙ sym l.1.0 in
@@ -34,20 +36,13 @@ module _ (link : Bool) (network destination source : ℕ) (before after : List �
         answered = sym (laid_whole (packed h (b ∷ bs)) (length before) (omega arith) ∙ long);
         bytes = w.bytes ∙ sym (placed_whole (packed h (b ∷ bs)) before (omega arith) ∙ rw long);
       }
-
-  pub wrote_nothing : (m : List ℕ) (w : Written) → length m ≤ 18 → ((n : ℕ) → w ≡ Packet n → ⊥)
-      → Wrote (header link network destination source) m before w after
-      → Laid (enveloped (header link network destination source) m) before 0 after
-  unfolding enveloped front laid
-  wrote_nothing m (Packet n) most k w = absurd (k n refl)
-  wrote_nothing [] Field most k w = rw w.bytes (nothing_laid before)
-  wrote_nothing [] Short most k w = rw w.bytes (nothing_laid before)
-  wrote_nothing (b ∷ bs) Field most k w =
+  wrote_laid [] (Err why) most w = rw w.bytes (nothing_laid before)
+  wrote_laid (b ∷ bs) (Err Field) most w =
       absurd
-      ((exactly_written.answer Field _ _ _).0 (sym w.answered) (own_ranges link network destination source _ (omega arith) most))
-  wrote_nothing (b ∷ bs) Short most k w =
+      ((exactly_written.answer (Err Field) _ _ _).0 (sym w.answered) (own_ranges link network destination source _ (omega arith) most))
+  wrote_laid (b ∷ bs) (Err Short) most w =
       let h = header link network destination source in
-      let g = (exactly_written.answer Short _ _ _).0 (sym w.answered) in
+      let g = (exactly_written.answer (Err Short) _ _ _).0 (sym w.answered) in
       let long = packed_length h (b ∷ bs) in
       record {
         answered = sym (laid_short (packed h (b ∷ bs)) (length before) (omega arith));
@@ -59,7 +54,7 @@ abbrev space : List ℕ
 space = replicate 16 0
 
 -- A buffer of 18 bytes with the values read into it from byte 2 on: it has room for them, and its front is the message of values.
-module _ (all : List ℕ) (seen : Seen) (first count n : ℕ) (values rest : List ℕ) (n-is : n ≡ min 16 count)
+module _ (all : List ℕ) (seen : Option Password) (first count n : ℕ) (values rest : List ℕ) (n-is : n ≡ min 16 count)
     (values-are : values ≡ range_of all seen first (length (take (2 + n - 2) space))) where
   asked : length (take (2 + n - 2) space) ≡ n
   asked = rw (length-take (2 + n - 2) space) (omega arith)

@@ -1,10 +1,10 @@
 -- What the code and the proofs are cut by: no promise under the roof needs a definition of this file.
-use Rattle.std.specs.Prelude.{◌≡◌, true, List, [], ◌∷◌, ℕ, ltb, length, if◌then◌else◌}
+use Rattle.std.specs.Prelude.{◌≡◌, true, List, [], ◌∷◌, ℕ, ltb, length, if◌then◌else◌, Option}
 use Rattle.units.specs.Units.{percent}
 use Rattle.packet.specs.Layout.{header}
 use Rattle.packet.specs.declared.Header.{Header}
+use Rattle.vault.specs.declared.Password.{Password}
 use Rattle.places.specs.Places.{network_in, unit_in}
-use Rattle.registers.specs.declared.Seen.{Seen}
 use Rattle.post.specs.declared.Message.{Message}
 use Rattle.post.specs.declared.Message.TheVariants.{Empty}
 use Rattle.post.specs.declared.Note.{Note}
@@ -51,5 +51,5 @@ LaysOneWay =
 -- 01, Numbers to test by, 2 (a), the reply: network 1, unit 5, 40 percent, to sender 9.
 abbrev pub CaseA : Type 0
 CaseA =
-    (all : List ℕ) (seen : Seen) → network_in all ≡ 1 → unit_in all ≡ 5
+    (all : List ℕ) (seen : Option Password) → network_in all ≡ 1 → unit_in all ≡ 5
     → replied all seen 9 Status (percent 40) ≡ (0x08 ∷ 0x00 ∷ 0x01 ∷ 0x09 ∷ 0x05 ∷ 0x86 ∷ 0x28 ∷ 0x3B ∷ []) ∷ []

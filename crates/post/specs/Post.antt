@@ -1,11 +1,11 @@
 -- What a switch sends: the packets of a message, a reply (01, Commands, 3 and 8), and a packet laid into its place.
-use Rattle.std.specs.Prelude.{Bool, false, List, [], ◌∷◌, ◌++◌, ℕ, min, ltb, length, drop, if◌then◌else◌}
+use Rattle.std.specs.Prelude.{Bool, false, List, [], ◌∷◌, ◌++◌, ℕ, min, ltb, length, drop, if◌then◌else◌, Option}
 use Rattle.units.specs.declared.Percent.{Percent}
 use Rattle.packet.specs.Layout.{header, packed}
 use Rattle.packet.specs.declared.Header.{Header}
+use Rattle.vault.specs.declared.Password.{Password}
 use Rattle.places.specs.Places.{network_in, unit_in}
 use Rattle.registers.specs.Registers.{range_of}
-use Rattle.registers.specs.declared.Seen.{Seen}
 use Rattle.post.specs.declared.Message.{Message}
 use Rattle.post.specs.declared.Message.TheVariants.{Empty, One, Two, Three}
 use Rattle.post.specs.declared.Reply.{Reply}
@@ -32,17 +32,17 @@ abbrev pub status : Percent → Message
 status percent = Two 0x86 percent.0
 
 -- 01, Commands, 3 (0x10): the message that tells registers, 16 at most.
-unfoldable pub values_from : List ℕ → Seen → ℕ → ℕ → List ℕ
+unfoldable pub values_from : List ℕ → Option Password → ℕ → ℕ → List ℕ
 values_from all seen first count = 0x90 ∷ first ∷ range_of all seen first (min 16 count)
 
 -- 01, Commands, 3 (0x10, 0x30): the message of each reply.
-unfoldable pub reply_message : List ℕ → Seen → Reply → Percent → List ℕ
+unfoldable pub reply_message : List ℕ → Option Password → Reply → Percent → List ℕ
 reply_message all seen Silence percent = []
 reply_message all seen Status percent = bytes_of (status percent)
 reply_message all seen (Registers first count) percent = values_from all seen first count
 
 -- 01, Commands, 8: the direct packets of a reply, one or none, to the one who asked.
-unfoldable pub replied : List ℕ → Seen → ℕ → Reply → Percent → List (List ℕ)
+unfoldable pub replied : List ℕ → Option Password → ℕ → Reply → Percent → List (List ℕ)
 replied all seen to reply percent = enveloped (headed all false to) (reply_message all seen reply percent)
 
 -- 01, Events and time, 6: a place with a packet laid at its front; the bytes behind it are kept, and all of them if it does not fit.

@@ -7,9 +7,8 @@ ghost use Rattle.post.specs.Post.{replied, values_from, headed, enveloped};
 ghost use Rattle.post.specs.Code.{no_note, note_header, sent_of, Laid};
 
 use packet::Header;
-use registers::Seen;
 use units::Percent;
-use writer::Written;
+use vault::Password;
 
 // First bytes of the two replies; the first one's may be a gesture's message too.
 pub const STATUS: u8 = 0x86;
@@ -98,7 +97,7 @@ fn link(note: Note, message: &[u8], out: &mut [u8]) -> u8
 // Lays a reply to the one who asked likewise. `seen` holds the password only where the caller may show it.
 pub fn send(
     all: &[u8; 256],
-    seen: Seen,
+    seen: Option<Password>,
     to: u8,
     reply: Reply,
     percent: Percent,
@@ -116,7 +115,14 @@ pub fn send(
     }
 }
 
-fn send_values(all: &[u8; 256], seen: Seen, to: u8, first: u8, count: u8, out: &mut [u8]) -> u8
+fn send_values(
+    all: &[u8; 256],
+    seen: Option<Password>,
+    to: u8,
+    first: u8,
+    count: u8,
+    out: &mut [u8],
+) -> u8
     ensures { Laid (enveloped (headed all.now false to) (values_from all.now seen first count)) out.old result out.new }
 {
     let mut bytes = [0u8; 18];
@@ -161,9 +167,5 @@ fn put(link: bool, network: u8, destination: u8, source: u8, message: &[u8], out
         destination,
         source,
     };
-    let written = writer::write(header, message, out);
-    let Written::Packet(whole) = written else {
-        return 0;
-    };
-    whole
+    writer::write(header, message, out).unwrap_or(0)
 }

@@ -1,5 +1,5 @@
 -- What can alter a register, shown of every event.
-use Rattle.std.specs.Prelude.{if◌then◌else◌}
+use Rattle.std.specs.Prelude.{Result, Ok, Err, if◌then◌else◌}
 use mathlib.Core.Bool.{Bool, true, false, ◌&&◌, and-eq-true_iff, true≢false}
 use mathlib.Core.List.{List, [], ◌∷◌, ◌++◌, map}
 use mathlib.Core.Logic.{◌⊎◌, inl, inr}
@@ -12,9 +12,8 @@ use lib.ListN.{length, get_or, drop}
 use Rattle.words.proofs.Laws.{both, cases}
 use Rattle.units.specs.Units.{percent_of}
 use Rattle.units.specs.declared.Step.{Step}
-use Rattle.packet.specs.Reading.{message_of, read_of}
-use Rattle.packet.specs.declared.Frame.{Frame}
-use Rattle.packet.specs.declared.Frame.TheVariants as frame
+use Rattle.packet.specs.Reading.{message_of, number_of_flaw, read_of}
+use Rattle.packet.specs.declared.Flaw.{Flaw}
 use Rattle.packet.specs.declared.Header.{Header}
 use Rattle.packet.proofs.Laws as packet
 use Rattle.vault.specs.Job.{Byte, Change, Outcome, Switch, Answered, answered, became, changed, done, kept, nothing, put, settled, over, followed}
@@ -259,14 +258,10 @@ module _ (s : Switch Plain) where
   order_says (order.Read first count) source values = get_says first count source
   order_says (order.Work w) source values = work_says w source values
 
-  frame_says : (f : Frame) (message : List ℕ) → Says s (by_frame s f message) (settled s.password (job_of_frame f message p))
+  frame_says : (f : Result Header Flaw) (message : List ℕ) → Says s (by_frame s f message) (settled s.password (job_of_frame f message p))
   unfolding by_frame job_of_frame
-  frame_says (frame.Read h) message = order_says (judged p.registers p.core.mode h message) h.source (drop 2 message)
-  frame_says frame.Short message = garbled_says 4
-  frame_says frame.Long message = garbled_says 5
-  frame_says frame.Length message = garbled_says 6
-  frame_says frame.Sum message = garbled_says 7
-  frame_says frame.Reserved message = garbled_says 8
+  frame_says (Ok h) message = order_says (judged p.registers p.core.mode h message) h.source (drop 2 message)
+  frame_says (Err flaw) message = garbled_says (number_of_flaw flaw)
 
   deed_says : (d : Deed) → Says s (by_deed s (settled s.password (job_of_deed d p)).next.plain.core.dimmer.level d) (settled s.password (job_of_deed d p))
   unfolding by_deed job_of_deed known job_of_bytes
@@ -341,7 +336,7 @@ module _ (s : Switch Plain) where
       (λ finds taps. ten_taps i (record { there = under; taps = taps; finds = finds }))))
       (cases (λ (w : Write). Cause s tick (bare w)) (eqb plain_of.core.save 0) (λ e. saved-480th (percent_of level) (eqb-true _ 0 e)) (λ _. no_write), tt)
 
-  module _ (bytes : List ℕ) (h : Header) (read : read_of bytes ≡ frame.Read h) where
+  module _ (bytes : List ℕ) (h : Header) (read : read_of bytes ≡ Ok h) where
     asking : (o : Order) → Accepted o plain_of.registers plain_of.core.mode h (message_of bytes) → Asks s bytes o
     asking o a = record { header = h; sound = packet.sound bytes h read; accepted = a }
 
@@ -364,14 +359,10 @@ module _ (s : Switch Plain) where
     order_causes (order.Work (work.Store i)) e = (preset-stored bytes i (asking (order.Work (work.Store i)) (asks (order.Work (work.Store i)) _ _ h _ e)), tt)
     order_causes (order.Work (work.Drive d)) e = tt
 
-  frame_causes : (bytes : List ℕ) (f : Frame) → read_of bytes ≡ f → EachWrite (Cause s (receive bytes)) (by_frame s f (message_of bytes))
+  frame_causes : (bytes : List ℕ) (f : Result Header Flaw) → read_of bytes ≡ f → EachWrite (Cause s (receive bytes)) (by_frame s f (message_of bytes))
   unfolding by_frame
-  frame_causes bytes (frame.Read h) e = order_causes bytes h e _ refl
-  frame_causes bytes frame.Short e = tt
-  frame_causes bytes frame.Long e = tt
-  frame_causes bytes frame.Length e = tt
-  frame_causes bytes frame.Sum e = tt
-  frame_causes bytes frame.Reserved e = tt
+  frame_causes bytes (Ok h) e = order_causes bytes h e _ refl
+  frame_causes bytes (Err flaw) e = tt
 
   deed_causes : (level : Step) (d : Deed) → EachWrite (Cause s d) (by_deed s level d)
   unfolding by_deed

@@ -1,4 +1,5 @@
 -- The bounds, shown event by event and over every run.
+use Rattle.std.specs.Prelude.{Result, Ok, Err}
 use mathlib.Core.Bool.{false}
 use mathlib.Core.List.{List, [], ◌∷◌, ◌++◌, map}
 use mathlib.Core.Path.{◌≡◌, refl, sym, ◌∙◌, subst}
@@ -10,9 +11,9 @@ use Rattle.words.proofs.Laws.{both}
 use Rattle.units.specs.Units.{percent_of}
 use Rattle.units.specs.declared.Step.{Step}
 use Rattle.units.proofs.Laws.{percent_within}
-use Rattle.packet.specs.Reading.{message_of, read_of}
-use Rattle.packet.specs.declared.Frame.{Frame}
-use Rattle.packet.specs.declared.Frame.TheVariants as frame
+use Rattle.packet.specs.Reading.{message_of, number_of_flaw, read_of}
+use Rattle.packet.specs.declared.Flaw.{Flaw}
+use Rattle.packet.specs.declared.Header.{Header}
 use Rattle.vault.specs.Job.{Switch}
 use Rattle.vault.specs.Machine.{Throughout, run}
 use Rattle.vault.specs.Product.{machine}
@@ -231,14 +232,10 @@ ordering_fine (order.Guess guess) source values p k = opening_fine guess p k
 ordering_fine (order.Read first count) source values p k = getting_fine first count source p k
 ordering_fine (order.Work w) source values p k = obeying_fine w source values p k
 
-reading_fine : (f : Frame) (m : List ℕ) (p : Plain) → Sane p → Fine (job_of_frame f m p)
+reading_fine : (f : Result Header Flaw) (m : List ℕ) (p : Plain) → Sane p → Fine (job_of_frame f m p)
 unfolding job_of_frame
-reading_fine (frame.Read h) m p k = ordering_fine (judged p.registers p.core.mode h m) h.source (drop 2 m) p k
-reading_fine frame.Short m p k = garbled_fine 4 p k
-reading_fine frame.Long m p k = garbled_fine 5 p k
-reading_fine frame.Length m p k = garbled_fine 6 p k
-reading_fine frame.Sum m p k = garbled_fine 7 p k
-reading_fine frame.Reserved m p k = garbled_fine 8 p k
+reading_fine (Ok h) m p k = ordering_fine (judged p.registers p.core.mode h m) h.source (drop 2 m) p k
+reading_fine (Err flaw) m p k = garbled_fine (number_of_flaw flaw) p k
 
 known_fine : (contact : ℕ) (asked : Plain → SwitchJob) (p : Plain) → Sane p → Fine (asked p) → Fine (known contact asked p)
 unfolding known

@@ -1,4 +1,5 @@
 -- The wall switch is careful with its password, job by job: only Set Registers puts it byte by byte, and only in Setup; only there is it shown.
+use Rattle.std.specs.Prelude.{Result, Ok, Err}
 use mathlib.Core.Bool.{false, true≢false}
 use mathlib.Core.List.{List, [], ◌∷◌, map}
 use mathlib.Core.Logic.{◌≢◌}
@@ -8,8 +9,7 @@ use native.Mathlib.Omega.{arith}
 use lib.Dec.{eqb, leb, ltb}
 use Rattle.words.proofs.Laws.{both, cases}
 use Rattle.packet.specs.Reading.{message_of, read_of}
-use Rattle.packet.specs.declared.Frame.{Frame}
-use Rattle.packet.specs.declared.Frame.TheVariants as frame
+use Rattle.packet.specs.declared.Flaw.{Flaw}
 use Rattle.packet.specs.declared.Header.{Header}
 use Rattle.vault.specs.Job.{Byte, Change, kept, put, over, followed}
 use Rattle.vault.specs.Vault.{in_setup}
@@ -146,14 +146,10 @@ ordering_fine p h m (order.Guess guess) source values e = opening_fine p guess
 ordering_fine p h m (order.Read first count) source values e = getting_fine p first count source
 ordering_fine p h m (order.Work w) source values e = working_fine p h m w source values e
 
-reading_fine : (p : Plain) (f : Frame) (m : List ℕ) → Fine p (job_of_frame f m p)
+reading_fine : (p : Plain) (f : Result Header Flaw) (m : List ℕ) → Fine p (job_of_frame f m p)
 unfolding job_of_frame
-reading_fine p (frame.Read h) m = ordering_fine p h m (judged p.registers p.core.mode h m) h.source _ refl
-reading_fine p frame.Short m = λ _. tt
-reading_fine p frame.Long m = λ _. tt
-reading_fine p frame.Length m = λ _. tt
-reading_fine p frame.Sum m = λ _. tt
-reading_fine p frame.Reserved m = λ _. tt
+reading_fine p (Ok h) m = ordering_fine p h m (judged p.registers p.core.mode h m) h.source _ refl
+reading_fine p (Err flaw) m = λ _. tt
 
 ticking_fine : (p : Plain) → Fine p (job_of_tick p)
 unfolding job_of_tick saved

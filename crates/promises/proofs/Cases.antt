@@ -1,4 +1,5 @@
 -- The table of cases (a) to (j), shown.
+use Rattle.std.specs.Prelude.{Ok, Err}
 use mathlib.Core.Bool.{true, false, ◌||◌}
 use mathlib.Core.List.{List, [], ◌∷◌}
 use mathlib.Core.Logic.{inl}
@@ -13,7 +14,7 @@ use Rattle.units.specs.Units.{off, percent, percent_of, step, step_of}
 use Rattle.units.specs.declared.Step.{Step}
 use Rattle.packet.specs.Layout.{header, first_byte, header_in, reserved_in, second_byte, total, whole_in}
 use Rattle.packet.specs.Reading.{message_of, number_of_frame, read_of}
-use Rattle.packet.specs.declared.Frame.TheVariants as frame
+use Rattle.packet.specs.declared.Flaw.TheVariants as flaw
 use Rattle.packet.proofs.Laws as packet
 use Rattle.vault.specs.Job.{Switch, answered, settled}
 use Rattle.vault.specs.Product
@@ -67,13 +68,13 @@ pub use Rattle.promises.proofs.Ticks.{next_at, run_joined, ticks_shift}
 
 -- How the packets are read.
 record Reads : Type 0 where
-  a : read_of packet_a ≡ frame.Read (header false 1 5 9)
+  a : read_of packet_a ≡ Ok (header false 1 5 9)
   a_message : message_of packet_a ≡ 0x30 ∷ []
-  b : read_of packet_b ≡ frame.Read (header true 1 3 9)
+  b : read_of packet_b ≡ Ok (header true 1 3 9)
   b_message : message_of packet_b ≡ 0x22 ∷ 0x32 ∷ 0x00 ∷ []
-  c : read_of packet_c ≡ frame.Read (header false 1 5 9)
+  c : read_of packet_c ≡ Ok (header false 1 5 9)
   c_message : message_of packet_c ≡ 0x03 ∷ 0x12 ∷ 0x34 ∷ []
-  e : read_of packet_e ≡ frame.Sum
+  e : read_of packet_e ≡ Err flaw.Sum
 
 reads : Reads
 unfolding read_of message_of header_in first_byte second_byte whole_in reserved_in total
@@ -211,7 +212,7 @@ module _ (s : Switch Plain) (lent : ℕ) (bytes : List ℕ) (enough : room ≤ l
   goto_job : job s.plain goto ≡ job_of_work (work.Drive (drive.Goto level rate)) accepts.header.source (drop 2 (message_of bytes)) s.plain
   unfolding job_of_order
   goto_job =
-      receive_job s.plain lent bytes accepts.header (driving (drive.Goto level rate)) enough (packet.only (frame.Read accepts.header) bytes accepts.sound)
+      receive_job s.plain lent bytes accepts.header (driving (drive.Goto level rate)) enough (packet.only (Ok accepts.header) bytes accepts.sound)
       (judge.only _ _ accepts.header (driving (drive.Goto level rate)) (message_of bytes) accepts.accepted)
 
   goto_dimmer : dimmer_in (respond s goto).next ≡ set-dimmer
@@ -342,7 +343,7 @@ dark_linked : found (started_from dark_image).plain.registers 3 ≡ At 0
 unfolding started_from woken apart dark_image bench_image zeros applied counter_place one_more stored found seek valid
 dark_linked = refl
 
-accepts : (bytes : List ℕ) (level rate : ℕ) → read_of bytes ≡ frame.Read (header true 1 3 9) → message_of bytes ≡ 0x22 ∷ level ∷ rate ∷ [] → Asks (started_from dark_image) bytes (driving (drive.Goto level rate))
+accepts : (bytes : List ℕ) (level rate : ℕ) → read_of bytes ≡ Ok (header true 1 3 9) → message_of bytes ≡ 0x22 ∷ level ∷ rate ∷ [] → Asks (started_from dark_image) bytes (driving (drive.Goto level rate))
 accepts bytes level rate read message = record {
   header = header true 1 3 9;
   sound = packet.sound bytes (header true 1 3 9) read;

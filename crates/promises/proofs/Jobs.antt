@@ -1,11 +1,11 @@
 -- What an event with room enough asks: an edge of a known contact, a tick, and a packet that is read and judged.
+use Rattle.std.specs.Prelude.{Ok}
 use mathlib.Core.List.{List}
 use mathlib.Core.Path.{◌≡◌}
 use Prim.Native.Nat.{ℕ, ◌≤◌, ◌<◌}
 use borrow.Author.Tests.{le-ltb, lt-leb}
 use lib.ListN.{drop}
 use Rattle.packet.specs.Reading.{message_of, read_of}
-use Rattle.packet.specs.declared.Frame.TheVariants.{Read}
 use Rattle.packet.specs.declared.Header.{Header}
 use Rattle.model.specs.Model.{room, contact_count}
 use Rattle.judge.specs.Judge.{judged}
@@ -14,7 +14,7 @@ use Rattle.switch.specs.Switch.{Plain, event, press, receive, release, tick}
 use Rattle.switch.specs.Events.{job_of_deed, job, known, job_of_order, job_of_press, job_of_frame, job_of_bytes, job_of_release, job_of_tick}
 
 -- A packet that is read: what is judged of it is what is done.
-pub receive_job : (p : Plain) (lent : ℕ) (bytes : List ℕ) (h : Header) (o : Order) → room ≤ lent → read_of bytes ≡ Read h
+pub receive_job : (p : Plain) (lent : ℕ) (bytes : List ℕ) (h : Header) (o : Order) → room ≤ lent → read_of bytes ≡ Ok h
     → judged p.registers p.core.mode h (message_of bytes) ≡ o
     → job p (event lent (receive bytes)) ≡ job_of_order o h.source (drop 2 (message_of bytes)) p
 unfolding job job_of_deed job_of_bytes job_of_frame

@@ -1,5 +1,5 @@
 -- The numbers, shown: each is given exactly when its row says, and a refusal leaves nothing behind.
-use Rattle.std.specs.Prelude.{if◌then◌else◌}
+use Rattle.std.specs.Prelude.{Result, Ok, Err, if◌then◌else◌}
 use mathlib.Core.Bool.{Bool, true, false, true≢false}
 use mathlib.Core.List.{List, []}
 use mathlib.Core.Logic.{◌⊎◌, inl, inr, ⊎_elim}
@@ -13,9 +13,9 @@ use lib.Seq.{set-get_or}
 use Rattle.words.proofs.Laws.{both, cases}
 use Rattle.units.specs.Units.{percent_of}
 use Rattle.packet.specs.Promises.{ReadRow, Sound}
-use Rattle.packet.specs.Reading.{message_of, number_of_frame, read_of}
-use Rattle.packet.specs.declared.Frame.{Frame}
-use Rattle.packet.specs.declared.Frame.TheVariants as frame
+use Rattle.packet.specs.Reading.{message_of, number_of_flaw, number_of_frame, read_of}
+use Rattle.packet.specs.declared.Flaw.{Flaw}
+use Rattle.packet.specs.declared.Flaw.TheVariants as flaw
 use Rattle.packet.specs.declared.Header.{Header}
 use Rattle.packet.specs.Promises as rows
 use Rattle.packet.proofs.Laws as packet
@@ -70,19 +70,19 @@ module _ (s : Switch Plain) where
   unread_number : (bytes : List ℕ) (n : ℕ) → (n ≡ 0 → ⊥) → ReadRow bytes n → number_in s.password (job_of_bytes bytes s.plain) ≡ n
   unfolding job_of_bytes job_of_frame garbled answer_of answer_with settled
   unread_number bytes n ne (rows.done h g) = absurd (ne refl)
-  unread_number bytes n ne (rows.too_short g) = rw (packet.only frame.Short bytes g)
-  unread_number bytes n ne (rows.too_long g) = rw (packet.only frame.Long bytes g)
-  unread_number bytes n ne (rows.wrong_length g) = rw (packet.only frame.Length bytes g)
-  unread_number bytes n ne (rows.wrong_sum g) = rw (packet.only frame.Sum bytes g)
-  unread_number bytes n ne (rows.reserved_bit g) = rw (packet.only frame.Reserved bytes g)
+  unread_number bytes n ne (rows.too_short g) = rw (packet.only (Err flaw.Short) bytes g)
+  unread_number bytes n ne (rows.too_long g) = rw (packet.only (Err flaw.Long) bytes g)
+  unread_number bytes n ne (rows.wrong_length g) = rw (packet.only (Err flaw.Length) bytes g)
+  unread_number bytes n ne (rows.wrong_sum g) = rw (packet.only (Err flaw.Sum) bytes g)
+  unread_number bytes n ne (rows.reserved_bit g) = rw (packet.only (Err flaw.Reserved) bytes g)
 
   -- A row of a packet that holds is what is answered.
   packet_only : (bytes : List ℕ) (n : ℕ) → PacketRefused s bytes n → number_in s.password (job_of_bytes bytes s.plain) ≡ n
   unfolding job_of_bytes job_of_frame job_of_order garbled refused job_of_guess answer_of answer_with settled
   packet_only bytes n (not_read _ ne row) = unread_number bytes n ne row
-  packet_only bytes n (not_accepted h k so r) = rw (packet.only (frame.Read h) bytes so, judge.only s.plain.registers s.plain.core.mode h (order.Refused k) (message_of bytes) r)
+  packet_only bytes n (not_accepted h k so r) = rw (packet.only (Ok h) bytes so, judge.only s.plain.registers s.plain.core.mode h (order.Refused k) (message_of bytes) r)
   packet_only bytes n (wrong_password guess a ne) =
-      rw (packet.only (frame.Read a.header) bytes a.sound, judge.only s.plain.registers s.plain.core.mode a.header (order.Guess guess) (message_of bytes) a.accepted)
+      rw (packet.only (Ok a.header) bytes a.sound, judge.only s.plain.registers s.plain.core.mode a.header (order.Guess guess) (message_of bytes) a.accepted)
       (wrong_guess s.password guess s.plain (mismatch s.password guess ne))
 
   read_range : (bytes : List ℕ) (n : ℕ) → (n ≡ 0 → ⊥) → ReadRow bytes n → (4 ≤ n) × (n ≤ 8)
@@ -116,14 +116,12 @@ module _ (s : Switch Plain) where
         both (λ (j : SwitchJob). Found (receive bytes) (number_in s.password j)) (in_setup s.plain.core.mode) (inl refl) (inl refl)
     order_found h so (order.Work w) e source values = inl refl
 
-    frame_found : (f : Frame) → read_of bytes ≡ f → Found (receive bytes) (number_in s.password (job_of_frame f (message_of bytes) s.plain))
+    frame_found : (f : Result Header Flaw) → read_of bytes ≡ f → Found (receive bytes) (number_in s.password (job_of_frame f (message_of bytes) s.plain))
     unfolding Found job_of_frame garbled answer_of answer_with settled
-    frame_found (frame.Read h) e = order_found h (packet.sound bytes h e) _ refl h.source (drop 2 (message_of bytes))
-    frame_found frame.Short e = inr (not_read 4 (λ z. omega arith) (((packet.exactly).number bytes 4).0 (ap number_of_frame e)))
-    frame_found frame.Long e = inr (not_read 5 (λ z. omega arith) (((packet.exactly).number bytes 5).0 (ap number_of_frame e)))
-    frame_found frame.Length e = inr (not_read 6 (λ z. omega arith) (((packet.exactly).number bytes 6).0 (ap number_of_frame e)))
-    frame_found frame.Sum e = inr (not_read 7 (λ z. omega arith) (((packet.exactly).number bytes 7).0 (ap number_of_frame e)))
-    frame_found frame.Reserved e = inr (not_read 8 (λ z. omega arith) (((packet.exactly).number bytes 8).0 (ap number_of_frame e)))
+    frame_found (Ok h) e = order_found h (packet.sound bytes h e) _ refl h.source (drop 2 (message_of bytes))
+    frame_found (Err flaw) e =
+        let n = number_of_flaw flaw in
+        inr (not_read n (λ z. omega (arith, packet.flaw_number flaw)) (((packet.exactly).number bytes n).0 (ap number_of_frame e)))
 
   -- The same of every deed.
   deed_found : (d : Deed) → Found d (number_in s.password (job_of_deed d s.plain))
@@ -285,14 +283,12 @@ module _ (s : Switch Plain) where
   order_quiet h m (order.Read first count) e source values = get_quiet first count source
   order_quiet h m (order.Work w) e source values = λ ne. absurd (ne refl)
 
-  frame_quiet : (f : Frame) (m : List ℕ) → Quietly s (job_of_frame f m s.plain)
+  frame_quiet : (f : Result Header Flaw) (m : List ℕ) → Quietly s (job_of_frame f m s.plain)
   unfolding job_of_frame
-  frame_quiet (frame.Read h) m = order_quiet h m (judged s.plain.registers s.plain.core.mode h m) refl h.source (drop 2 m)
-  frame_quiet frame.Short m = garbled_quiet 4 refl
-  frame_quiet frame.Long m = garbled_quiet 5 refl
-  frame_quiet frame.Length m = garbled_quiet 6 refl
-  frame_quiet frame.Sum m = garbled_quiet 7 refl
-  frame_quiet frame.Reserved m = garbled_quiet 8 refl
+  frame_quiet (Ok h) m = order_quiet h m (judged s.plain.registers s.plain.core.mode h m) refl h.source (drop 2 m)
+  frame_quiet (Err flaw) m =
+      let r = packet.flaw_number flaw in
+      garbled_quiet (number_of_flaw flaw) (rw (le-leb 4 (number_of_flaw flaw) r.0, le-leb (number_of_flaw flaw) 8 r.1))
 
   deed_quiet : (d : Deed) → Quietly s (job_of_deed d s.plain)
   unfolding job_of_deed known job_of_press job_of_release job_of_tick job_of_restart job_of_bytes finished answer_of answer_with settled

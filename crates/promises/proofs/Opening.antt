@@ -1,4 +1,5 @@
 -- What opens Setup, shown.
+use Rattle.std.specs.Prelude.{Result, Ok, Err}
 use mathlib.Core.Bool.{Bool, true, false, true≢false, false≢true}
 use mathlib.Core.List.{List, [], ◌∷◌}
 use mathlib.Core.Logic.{◌⊎◌, inl, inr, ⊎_elim}
@@ -12,8 +13,7 @@ use Rattle.packet.specs.Layout.{packed}
 use Rattle.writer.specs.Promises.{Ranges}
 use Rattle.packet.specs.Promises.{Sound}
 use Rattle.packet.specs.Reading.{message_of, read_of}
-use Rattle.packet.specs.declared.Frame.{Frame}
-use Rattle.packet.specs.declared.Frame.TheVariants as frame
+use Rattle.packet.specs.declared.Flaw.{Flaw}
 use Rattle.packet.specs.declared.Header.{Header}
 use Rattle.packet.proofs.Laws as packet
 use Rattle.writer.proofs.Inverse.{reads_back}
@@ -119,14 +119,10 @@ module _ (s : Switch Plain) (out : Outside s) where
     order_opens h (order.Read first count) so e source values = get_leads first count source
     order_opens h (order.Work w) so e source values = obey_leads w source values
 
-    frame_leads : (f : Frame) → read_of bytes ≡ f → Leads (receive bytes) (job_of_frame f (message_of bytes) s.plain)
+    frame_leads : (f : Result Header Flaw) → read_of bytes ≡ f → Leads (receive bytes) (job_of_frame f (message_of bytes) s.plain)
     unfolding job_of_frame garbled signalled settled
-    frame_leads (frame.Read h) e = order_opens h _ (packet.sound bytes h e) refl h.source (drop 2 (message_of bytes))
-    frame_leads frame.Short e = same_mode (receive bytes) _ refl
-    frame_leads frame.Long e = same_mode (receive bytes) _ refl
-    frame_leads frame.Length e = same_mode (receive bytes) _ refl
-    frame_leads frame.Sum e = same_mode (receive bytes) _ refl
-    frame_leads frame.Reserved e = same_mode (receive bytes) _ refl
+    frame_leads (Ok h) e = order_opens h _ (packet.sound bytes h e) refl h.source (drop 2 (message_of bytes))
+    frame_leads (Err flaw) e = same_mode (receive bytes) _ refl
 
   deed_leads : (d : Deed) → Leads d (job_of_deed d s.plain)
   unfolding job_of_deed known job_of_press job_of_restart woken started job_of_bytes refused settled in_setup
@@ -151,7 +147,7 @@ module _ (s : Switch Plain) (lent : ℕ) (d : Deed) (enough : room ≤ lent) (ri
   right_job =
       let g = right.start in
       ap (λ (d : Deed). job s.plain (event lent d)) g.received
-      ∙ receive_job s.plain lent g.bytes g.asks.header (order.Guess g.guess) enough (packet.only (frame.Read g.asks.header) g.bytes g.asks.sound)
+      ∙ receive_job s.plain lent g.bytes g.asks.header (order.Guess g.guess) enough (packet.only (Ok g.asks.header) g.bytes g.asks.sound)
       (judge.only s.plain.registers s.plain.core.mode g.asks.header (order.Guess g.guess) (message_of g.bytes) g.asks.accepted)
 
   right_answer : respond s (event lent d) ≡ answered (outcome_of (opened s.plain.core) [] 0 reply.Silence s.plain seen.Hidden) s.password

@@ -1,11 +1,11 @@
 -- What can alter a register: the writes of every event, in every mode, and the byte that each of the 256 places holds after them.
-use Rattle.std.specs.Prelude.{true, false, List, [], ◌∷◌, ◌++◌, ◌⊎◌, ◌≡◌, ℕ, ◌+◌, ◌-◌, ◌≤◌, ◌<◌, eqb, ltb, length, get_or, drop, if◌then◌else◌}
+use Rattle.std.specs.Prelude.{true, false, List, [], ◌∷◌, ◌++◌, Result, Ok, Err, ◌⊎◌, ◌≡◌, ℕ, ◌+◌, ◌-◌, ◌≤◌, ◌<◌, eqb, ltb, length, get_or, drop, if◌then◌else◌}
 use Rattle.units.specs.Units.{percent_of}
 use Rattle.units.specs.declared.Percent.{Percent}
 use Rattle.units.specs.declared.Step.{Step}
 use Rattle.packet.specs.Reading.{message_of, read_of}
-use Rattle.packet.specs.declared.Frame.{Frame}
-use Rattle.packet.specs.declared.Frame.TheVariants as frame
+use Rattle.packet.specs.declared.Header.{Header}
+use Rattle.packet.specs.declared.Flaw.{Flaw}
 use Rattle.vault.specs.Job.{Switch}
 use Rattle.vault.specs.Vault.{matches}
 use Rattle.vault.specs.declared.Mode.{Mode}
@@ -66,13 +66,9 @@ by_order s (order.Work (work.Store i)) values = bare (Preset i (percent_of s.pla
 by_order s (order.Work (work.Drive d)) values = []
 
 -- A packet that is not read writes nothing.
-unfoldable pub by_frame : Switch Plain → Frame → List ℕ → List Writing
-by_frame s (frame.Read h) message = by_order s (judged s.plain.registers s.plain.core.mode h message) (drop 2 message)
-by_frame s frame.Short message = []
-by_frame s frame.Long message = []
-by_frame s frame.Length message = []
-by_frame s frame.Sum message = []
-by_frame s frame.Reserved message = []
+unfoldable pub by_frame : Switch Plain → Result Header Flaw → List ℕ → List Writing
+by_frame s (Ok h) message = by_order s (judged s.plain.registers s.plain.core.mode h message) (drop 2 message)
+by_frame s (Err flaw) message = []
 
 -- What a deed writes, in order, where it leaves this level.
 unfoldable pub by_deed : Switch Plain → Step → Deed → List Writing

@@ -7,6 +7,7 @@ use Prim.Native.Nat.{ℕ, ◌<◌}
 use native.Mathlib.Omega.{arith}
 use borrow.Author.Tests.{ltb-true, eqb-true, eqb-false, lt-ltb}
 use lib.Dec.{ltb, eqb}
+use Rattle.std.specs.Prelude.{Option, Some, None}
 use Rattle.words.proofs.Laws.{cases, neither, tests}
 use Rattle.vault.specs.Vault.{in_setup}
 use Rattle.vault.specs.declared.Mode.{Mode}
@@ -15,8 +16,6 @@ use Rattle.levels.specs.Levels.{options_of}
 use Rattle.packet.specs.declared.Header.{Header}
 use Rattle.places.specs.Places.{network_in, unit_in, dimming_in}
 use Rattle.registers.specs.Registers.{found}
-use Rattle.registers.specs.declared.Found.{Found}
-use Rattle.registers.specs.declared.Found.TheVariants.{At, Nowhere}
 use Rattle.verbs.specs.declared.Verb.{Verb}
 use Rattle.verbs.specs.declared.Verb.TheVariants.{Open, Close, Get, Set, Activate, Deactivate, Goto, FadeStart, FadeStop, Blink, Report, Store, Unlisted}
 use Rattle.verbs.proofs.Checks.{both_say}
@@ -46,9 +45,9 @@ aimed all h =
     (λ l. cases whom (eqb h.destination 0) (λ z. (l, eqb-true _ _ z))
     (λ z. cases whom (eqb h.destination (unit_in all)) (λ u. (l, (eqb-true _ _ u, eqb-false _ _ z))) (λ u. rw l (eqb-false _ _ z, eqb-false _ _ u))))
   where
-    linked : h.link ≡ true → (f : Found) → found all h.destination ≡ f → Aimed (matching f) all h
-    linked l (At i) e = (l, e)
-    linked l Nowhere e = rw l e
+    linked : h.link ≡ true → (f : Option ℕ) → found all h.destination ≡ f → Aimed (matching f) all h
+    linked l (Some i) e = (l, e)
+    linked l None e = rw l e
 
 -- 10: it reaches nobody exactly when its row says.
 pub reached_says : (all : List ℕ) (h : Header) → (reached (target_of all h) ≡ false) ↔ Unreached all h

@@ -1,12 +1,11 @@
 -- What is promised of the checks 9, 10 and 13, in the words of their rows. `all` are the registers and h the header.
-use Rattle.std.specs.Prelude.{Bool, true, false, List, ◌≡◌, ℕ}
+use Rattle.std.specs.Prelude.{Bool, true, false, List, ◌≡◌, ℕ, Some, None}
 use Rattle.vault.specs.declared.Mode.{Mode}
 use Rattle.vault.specs.declared.Mode.TheVariants.{Normal, Setup}
 use Rattle.levels.specs.Levels.{options_of}
 use Rattle.packet.specs.declared.Header.{Header}
 use Rattle.places.specs.Places.{network_in, unit_in, dimming_in}
 use Rattle.registers.specs.Registers.{found}
-use Rattle.registers.specs.declared.Found.TheVariants.{At, Nowhere}
 use Rattle.verbs.specs.declared.Verb.{Verb}
 use Rattle.verbs.specs.declared.Verb.TheVariants.{Open, Close, Get, Set, Activate, Deactivate, Goto, FadeStart, FadeStop, Blink, Report, Store, Unlisted}
 
@@ -17,7 +16,7 @@ Unheard all h = (h.network ≡ 0 → ⊥) × (h.network ≡ network_in all → �
 -- 01, Answer numbers, row 10: by its destination, a direct packet is neither for all units nor for ours, a link packet for no component.
 abbrev pub NotFor : Bool → List ℕ → ℕ → Type 0
 NotFor false all destination = (destination ≡ 0 → ⊥) × (destination ≡ unit_in all → ⊥)
-NotFor true all destination = found all destination ≡ Nowhere
+NotFor true all destination = found all destination ≡ None
 
 -- 01, Answer numbers, row 10, of a header.
 abbrev pub Unreached : List ℕ → Header → Type 0
@@ -54,4 +53,4 @@ Permitted Unlisted all mode h = ⊥
 
 -- By link, where i is the matching component.
 abbrev pub ByLink : ℕ → List ℕ → Header → Type 0
-ByLink i all h = (h.link ≡ true) × (found all h.destination ≡ At i)
+ByLink i all h = (h.link ≡ true) × (found all h.destination ≡ Some i)

@@ -1,13 +1,11 @@
 -- Whom a packet reaches, and which commands it may bring there: the checks 9, 10 and 13.
-use Rattle.std.specs.Prelude.{Bool, true, false, ◌&&◌, ◌||◌, List, ℕ, ltb, eqb, if◌then◌else◌}
+use Rattle.std.specs.Prelude.{Bool, true, false, ◌&&◌, ◌||◌, List, ℕ, ltb, eqb, if◌then◌else◌, Option, Some, None}
 use Rattle.vault.specs.Vault.{in_setup}
 use Rattle.vault.specs.declared.Mode.{Mode}
 use Rattle.vault.specs.declared.Mode.TheVariants.{Normal, Setup, Factory}
 use Rattle.packet.specs.declared.Header.{Header}
 use Rattle.places.specs.Places.{network_in, unit_in}
 use Rattle.registers.specs.Registers.{found}
-use Rattle.registers.specs.declared.Found.{Found}
-use Rattle.registers.specs.declared.Found.TheVariants.{At, Nowhere}
 use Rattle.verbs.specs.declared.Verb.{Verb}
 use Rattle.verbs.specs.declared.Verb.TheVariants.{Open, Close, Get, Set, Activate, Deactivate, Goto, FadeStart, FadeStop, Blink, Report, Store, Unlisted}
 use Rattle.reach.specs.declared.Target.{Target}
@@ -25,9 +23,9 @@ directly all destination =
     else Nobody
 
 -- 01, Answer numbers, row 10: a link packet is for the matching component, or for nobody here.
-abbrev pub matching : Found → Target
-matching (At i) = Component i
-matching Nowhere = Nobody
+abbrev pub matching : Option ℕ → Target
+matching (Some i) = Component i
+matching None = Nobody
 
 -- Whom a packet is for, by its kind.
 unfoldable pub target_of : List ℕ → Header → Target

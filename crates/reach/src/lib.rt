@@ -2,15 +2,14 @@
 #![tactic(auto)]
 
 ghost use Rattle.std.specs.Prelude.{◌≡◌};
-ghost use Rattle.vault.specs.Vault.{in_setup};
-ghost use Rattle.reach.specs.Reach.{heard, directly, matching, target_of, reached, to_us, direct_to, by_link, is_normal, permitted, component_of};
+ghost use Rattle.reach.specs.Reach.{heard, directly, target_of, reached, to_us, direct_to, by_link, permitted, component_of};
 
 use packet::Header;
-use registers::Found;
 use vault::Mode;
 use verbs::Verb;
 
 // Whom a packet reaches: nobody here, every unit, this unit, or one of the receive components.
+// Stays as it is: `permitted` answers for Nobody too, and may not take a narrower type.
 #[derive(Clone, Copy)]
 pub enum Target {
     Nobody,
@@ -19,21 +18,25 @@ pub enum Target {
     Component(u8),
 }
 
+#[tactic(auto, unfolding(crate::specs::Reach::heard))]
 pub fn heard(all: &[u8; 256], network: u8) -> bool
     ensures { result ≡ heard all.now network }
 {
     network == 0 || network == places::network(all)
 }
 
+#[tactic(auto, unfolding(crate::specs::Reach::target_of))]
 pub fn target_of(all: &[u8; 256], header: Header) -> Target
     ensures { result ≡ target_of all.now header }
 {
     if header.link {
-        return matching(registers::find(all, header.destination));
+        registers::find(all, header.destination).map_or(Target::Nobody, Target::Component)
+    } else {
+        directly(all, header.destination)
     }
-    directly(all, header.destination)
 }
 
+#[tactic(auto, unfolding(crate::specs::Reach::directly))]
 fn directly(all: &[u8; 256], destination: u8) -> Target
     ensures { result ≡ directly all.now destination }
 {
@@ -46,52 +49,19 @@ fn directly(all: &[u8; 256], destination: u8) -> Target
     Target::Nobody
 }
 
-fn matching(found: Found) -> Target
-    ensures { result ≡ matching found }
-{
-    match found {
-        Found::At(i) => Target::Component(i),
-        Found::Nowhere => Target::Nobody,
-    }
-}
-
+#[tactic(auto, unfolding(crate::specs::Reach::permitted, vault::specs::Vault::in_setup))]
 pub fn permitted(verb: Verb, target: Target, mode: Mode, source: u8, capable: bool) -> bool
     ensures { result ≡ permitted verb target mode source capable }
 {
     match verb {
-        Verb::Open => target.to_us() && in_normal(mode),
-        Verb::Close => target.direct() && in_setup(mode),
-        Verb::Get => target.to_us() && 0 < source,
-        Verb::Set => target.to_us() && in_setup(mode),
-        Verb::Activate => target.by_link(),
-        Verb::Deactivate => target.by_link(),
-        Verb::Goto => true,
+        Verb::Open => target.to_us() && mode == Mode::Normal,
+        Verb::Close => target.direct() && mode == Mode::Setup,
+        Verb::Set => target.to_us() && mode == Mode::Setup,
+        Verb::Get | Verb::Report => target.to_us() && 0 < source,
+        Verb::Activate | Verb::Deactivate | Verb::Store => target.by_link(),
         Verb::FadeStart => capable,
-        Verb::FadeStop => true,
-        Verb::Blink => true,
-        Verb::Report => target.to_us() && 0 < source,
-        Verb::Store => target.by_link(),
+        Verb::Goto | Verb::FadeStop | Verb::Blink => true,
         Verb::Unlisted => false,
-    }
-}
-
-fn in_normal(mode: Mode) -> bool
-    ensures { result ≡ is_normal mode }
-{
-    match mode {
-        Mode::Normal => true,
-        Mode::Setup => false,
-        Mode::Factory => false,
-    }
-}
-
-fn in_setup(mode: Mode) -> bool
-    ensures { result ≡ in_setup mode }
-{
-    match mode {
-        Mode::Normal => false,
-        Mode::Setup => true,
-        Mode::Factory => false,
     }
 }
 
@@ -99,45 +69,25 @@ impl Target {
     pub fn reached(self) -> bool
         ensures { result ≡ reached self }
     {
-        match self {
-            Target::Nobody => false,
-            Target::Everyone => true,
-            Target::Us => true,
-            Target::Component(_) => true,
-        }
+        !matches!(self, Target::Nobody)
     }
 
     fn to_us(self) -> bool
         ensures { result ≡ to_us self }
     {
-        match self {
-            Target::Nobody => false,
-            Target::Everyone => false,
-            Target::Us => true,
-            Target::Component(_) => false,
-        }
+        matches!(self, Target::Us)
     }
 
     fn direct(self) -> bool
         ensures { result ≡ direct_to self }
     {
-        match self {
-            Target::Nobody => false,
-            Target::Everyone => true,
-            Target::Us => true,
-            Target::Component(_) => false,
-        }
+        matches!(self, Target::Everyone | Target::Us)
     }
 
     fn by_link(self) -> bool
         ensures { result ≡ by_link self }
     {
-        match self {
-            Target::Nobody => false,
-            Target::Everyone => false,
-            Target::Us => false,
-            Target::Component(_) => true,
-        }
+        matches!(self, Target::Component(_))
     }
 
     // The component that a link packet reaches.
@@ -145,10 +95,8 @@ impl Target {
         ensures { result ≡ component_of self }
     {
         match self {
-            Target::Nobody => 0,
-            Target::Everyone => 0,
-            Target::Us => 0,
             Target::Component(i) => i,
+            _ => 0,
         }
     }
 }

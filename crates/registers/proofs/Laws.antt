@@ -1,26 +1,22 @@
 -- What callers use of the registers: the password apart and back, an image taken, a range read, a component found.
 use mathlib.Core.Bool.{Bool, true, false, true≢false}
-use mathlib.Core.List.{List, [], ◌∷◌, ◌++◌, append_assoc}
+use mathlib.Core.List.{List, [], ◌∷◌}
 use mathlib.Core.Logic.{◌≢◌}
 use mathlib.Core.Path.{◌≡◌, refl, sym, ap, ap₂, ◌∙◌}
-use Prim.Native.Nat.{ℕ, zero, suc, ◌+◌, ◌<◌}
+use Prim.Native.Nat.{ℕ, zero, suc, ◌+◌, ◌<◌, ◌≤◌}
 use native.Mathlib.Nat.{add-zero}
-use native.Mathlib.Numerals.{add-one}
 use native.Mathlib.Omega.{arith}
 use lib.Dec.{eqb, ltb}
-use lib.ListN.{length, get_or, set, take, length-set, get_or-eq_default}
-use lib.Seq.{ext_get_or, get_or-set_other, take-suc-set}
+use lib.ListN.{length, get_or, set, take, drop, length-set, length-take, length-drop, get_or-eq_default}
+use lib.Seq.{ext_get_or, get_or-set_other, get_or-take, get_or-drop}
 use borrow.Author.Tests.{eqb-true, eqb-false, eq-eqb, ne_eqb, lt-ltb, le-ltb}
+use Rattle.std.specs.Prelude.{Option, Some, None}
 use Rattle.words.specs.Words.{Bytes}
 use Rattle.words.proofs.Laws.{both, cases, two_ways}
 use Rattle.vault.specs.declared.Password.{Password}
 use Rattle.places.specs.Places.{size, first_place, second_place, secret}
-use Rattle.places.proofs.Laws.{not_secret, by_secret}
-use Rattle.registers.specs.Registers.{password_in, apart, image_of, Dead, number_taken, first_seen, second_seen, read_at, range_of}
-use Rattle.registers.specs.declared.Seen.{Seen}
-use Rattle.registers.specs.declared.Seen.TheVariants.{Hidden, Shown}
-use Rattle.registers.specs.declared.Taken.{Taken}
-use Rattle.registers.specs.declared.Taken.TheVariants.{Apart, Refused}
+use Rattle.places.proofs.Laws.{not_secret, by_secret, plain}
+use Rattle.registers.specs.Registers.{password_in, apart, image_of, Dead, number_taken, password_seen, read_at, range_of}
 use Rattle.registers.specs.Code.{taken_of, after_taking, Took, TakenExactly}
 
 -- Taken apart and put back, an image is as it was.
@@ -107,16 +103,16 @@ alike_apart a b same h =
     (λ e. apart_other a k e ∙ h k e ∙ sym (apart_other b k e)))
 
 -- Taking an image has one outcome: the answer and the bytes left behind.
-pub took_one_outcome : {image before : List ℕ} {a b : Taken} {x y : List ℕ} → Took image before a x → Took image before b y → (a ≡ b) × (x ≡ y)
+pub took_one_outcome : {image before : List ℕ} {a b : Option Password} {x y : List ℕ} → Took image before a x → Took image before b y → (a ≡ b) × (x ≡ y)
 took_one_outcome s t = (s.answered ∙ sym t.answered, s.registers ∙ sym t.registers)
 
 -- An image of 256 bytes is taken.
-pub image_taken : (image all : List ℕ) → length image ≡ size → (taken_of image ≡ Apart (password_in image)) × (after_taking image all ≡ apart image)
+pub image_taken : (image all : List ℕ) → length image ≡ size → (taken_of image ≡ Some (password_in image)) × (after_taking image all ≡ apart image)
 unfolding taken_of after_taking
 image_taken image all h = (rw (eq-eqb (length image) size h), rw (eq-eqb (length image) size h))
 
 -- Any other is refused, and the registers keep their bytes.
-pub image_refused : (image all : List ℕ) → length image ≢ size → (taken_of image ≡ Refused) × (after_taking image all ≡ all)
+pub image_refused : (image all : List ℕ) → length image ≢ size → (taken_of image ≡ None) × (after_taking image all ≡ all)
 unfolding taken_of after_taking
 image_refused image all h = (rw (ne_eqb (length image) size h), rw (ne_eqb (length image) size h))
 
@@ -147,25 +143,25 @@ unfolding after_taking
 taking_dead image all h = both Dead (eqb (length image) size) (apart_dead image) h
 
 -- A register read without the password is 0 at the password's places.
-pub read_hidden : (all : List ℕ) (k : ℕ) → secret k ≡ true → read_at all Hidden k ≡ 0
-unfolding read_at first_seen second_seen
+pub read_hidden : (all : List ℕ) (k : ℕ) → secret k ≡ true → read_at all None k ≡ 0
+unfolding read_at password_seen
 read_hidden all k h = by_secret k (λ e. rw e) (λ e. rw e) (λ e. absurd (true≢false (sym h ∙ e)))
 
 -- At any other place it is the array's byte, with the password or without.
-pub read_plain : (all : List ℕ) (seen : Seen) (k : ℕ) → secret k ≡ false → k < size → read_at all seen k ≡ get_or all k 0
+pub read_plain : (all : List ℕ) (seen : Option Password) (k : ℕ) → secret k ≡ false → k < size → read_at all seen k ≡ get_or all k 0
 unfolding read_at
 read_plain all seen k h within =
     let ne = not_secret k h in
     simp (ne_eqb k first_place ne.0, ne_eqb k second_place ne.1, lt-ltb k size within)
 
 -- What the array holds at 0x02 and 0x03 is not read.
-pub read_apart : (all : List ℕ) (seen : Seen) (k : ℕ) → read_at (apart all) seen k ≡ read_at all seen k
+pub read_apart : (all : List ℕ) (seen : Option Password) (k : ℕ) → read_at (apart all) seen k ≡ read_at all seen k
 unfolding read_at
 read_apart all seen k = by_secret k (λ e. rw e) (λ e. rw e) (λ e. rw (apart_other all k e))
 
 -- With the password in hand a register is the image's byte.
-pub read_shown : (all : List ℕ) (w : Password) (k : ℕ) → length all ≡ size → read_at all (Shown w) k ≡ get_or (image_of all w) k 0
-unfolding read_at first_seen second_seen password_in
+pub read_shown : (all : List ℕ) (w : Password) (k : ℕ) → length all ≡ size → read_at all (Some w) k ≡ get_or (image_of all w) k 0
+unfolding read_at password_seen password_in
 read_shown all w k h =
     by_secret k
     (λ e. rw e (sym (ap (λ p. p.0) (password_back all w h))))
@@ -179,13 +175,13 @@ read_shown all w k h =
     (sym (get_or-eq_default (image_of all w) 0 (rw (image_length all w) (omega arith))))))
 
 -- A range has as many bytes as are asked for.
-pub range_length : (all : List ℕ) (seen : Seen) (first n : ℕ) → length (range_of all seen first n) ≡ n
+pub range_length : (all : List ℕ) (seen : Option Password) (first n : ℕ) → length (range_of all seen first n) ≡ n
 unfolding range_of
 range_length all seen first zero = refl
 range_length all seen first (suc n) = ap suc (range_length all seen (first + 1) n)
 
 -- Its i-th byte is the register that many places on: the mask goes by the place.
-pub range_at : (all : List ℕ) (seen : Seen) (first n i : ℕ) → i < n → get_or (range_of all seen first n) i 0 ≡ read_at all seen (first + i)
+pub range_at : (all : List ℕ) (seen : Option Password) (first n i : ℕ) → i < n → get_or (range_of all seen first n) i 0 ≡ read_at all seen (first + i)
 unfolding range_of
 range_at all seen first zero i h = absurd (omega arith)
 range_at all seen first (suc n) zero h = rw (add-zero first)
@@ -193,31 +189,37 @@ range_at all seen first (suc n) (suc i) h =
     let on : first + 1 + i ≡ first + suc i = omega arith in
     range_at all seen (first + 1) n i (omega arith) ∙ rw on
 
--- A range that is filled from the front: one byte more.
-pub range_more : (all : List ℕ) (seen : Seen) (first : ℕ) (out : List ℕ) (i v n : ℕ) → i < length out → v ≡ read_at all seen (first + i)
-    → take (i + 1) (set out i v) ++ range_of all seen (first + (i + 1)) n ≡ take i out ++ range_of all seen (first + i) (suc n)
-unfolding range_of
-range_more all seen first out i v n h e =
-    let next : first + (i + 1) ≡ first + i + 1 = omega arith in
-    rw (next, add-one i, take-suc-set out i v h, append_assoc (take i out) (v ∷ []), e)
+-- Bytes are a range where each is the register that many places on.
+pub range_is : (all : List ℕ) (seen : Option Password) (first n : ℕ) (out : List ℕ) → length out ≡ n
+    → ((k : ℕ) → k < n → get_or out k 0 ≡ read_at all seen (first + k)) → out ≡ range_of all seen first n
+range_is all seen first n out h each =
+    ext_get_or 0 out (range_of all seen first n) (h ∙ sym (range_length all seen first n))
+    (λ k within. each k (omega arith) ∙ sym (range_at all seen first n k (omega arith)))
+
+-- Past the password and within the registers it is the array's own bytes, whatever is seen of the password.
+pub range_plain : (all : List ℕ) (seen : Option Password) (first n : ℕ) → second_place < first → first + n ≤ size → length all ≡ size
+    → take n (drop first all) ≡ range_of all seen first n
+range_plain all seen first n past within whole =
+    range_is all seen first n (take n (drop first all)) (simp (length-take, length-drop) (omega arith))
+    (λ k h. get_or-take n (drop first all) k 0 h ∙ get_or-drop first all k 0 ∙ sym (read_plain all seen (first + k) (plain (first + k) (omega arith)) (omega arith)))
 
 -- So a range read without the password has 0 at 0x02 and 0x03, wherever it starts.
-pub range_hidden : (all : List ℕ) (first n i : ℕ) → i < n → secret (first + i) ≡ true → get_or (range_of all Hidden first n) i 0 ≡ 0
-range_hidden all first n i h s = range_at all Hidden first n i h ∙ read_hidden all (first + i) s
+pub range_hidden : (all : List ℕ) (first n i : ℕ) → i < n → secret (first + i) ≡ true → get_or (range_of all None first n) i 0 ≡ 0
+range_hidden all first n i h s = range_at all None first n i h ∙ read_hidden all (first + i) s
 
 -- A range does not depend on what the array holds at 0x02 and 0x03.
-pub range_apart : (all : List ℕ) (seen : Seen) (first n : ℕ) → range_of (apart all) seen first n ≡ range_of all seen first n
+pub range_apart : (all : List ℕ) (seen : Option Password) (first n : ℕ) → range_of (apart all) seen first n ≡ range_of all seen first n
 unfolding range_of
 range_apart all seen first zero = refl
 range_apart all seen first (suc n) = ap₂ ◌∷◌ (read_apart all seen first) (range_apart all seen (first + 1) n)
 
 -- With the password in hand a range is a stretch of the image.
 pub range_shown : (all : List ℕ) (w : Password) (first n i : ℕ) → length all ≡ size → i < n
-    → get_or (range_of all (Shown w) first n) i 0 ≡ get_or (image_of all w) (first + i) 0
-range_shown all w first n i len h = range_at all (Shown w) first n i h ∙ read_shown all w (first + i) len
+    → get_or (range_of all (Some w) first n) i 0 ≡ get_or (image_of all w) (first + i) 0
+range_shown all w first n i len h = range_at all (Some w) first n i h ∙ read_shown all w (first + i) len
 
 -- What is read of bytes are bytes.
-module _ (all : List ℕ) (seen : Seen) (bytes : Bytes all) (first_byte : first_seen seen < 256) (second-byte : second_seen seen < 256) where
+module _ (all : List ℕ) (seen : Option Password) (bytes : Bytes all) (first_byte : (password_seen seen).0 < 256) (second-byte : (password_seen seen).1 < 256) where
   pub read_byte : (k : ℕ) → read_at all seen k < 256
   unfolding read_at
   read_byte k =

@@ -1,20 +1,19 @@
 -- What the code and the proofs are cut by: no promise under the roof needs a definition of this file.
-use Rattle.std.specs.Prelude.{◌≡◌, List, ◌↔◌, ℕ, ◌<◌, eqb, length, if◌then◌else◌}
+use Rattle.std.specs.Prelude.{◌≡◌, List, ◌↔◌, ℕ, ◌<◌, eqb, length, if◌then◌else◌, Option, Some, None}
 use Rattle.places.specs.Places.{size, components, link_of}
-use Rattle.registers.specs.declared.Taken.{Taken}
-use Rattle.registers.specs.declared.Taken.TheVariants.{Apart, Refused}
+use Rattle.vault.specs.declared.Password.{Password}
 use Rattle.registers.specs.Registers.{password_in, apart, number_taken}
 
 -- 01, Events and time, 1: an image of 256 bytes is taken; any other is refused.
-unfoldable pub taken_of : List ℕ → Taken
-taken_of image = if eqb (length image) size then Apart (password_in image) else Refused
+unfoldable pub taken_of : List ℕ → Option Password
+taken_of image = if eqb (length image) size then Some (password_in image) else None
 
 -- The registers once an image is offered: those of the image, or, refused, every byte as it was (decision 54).
 unfoldable pub after_taking : List ℕ → List ℕ → List ℕ
 after_taking image all = if eqb (length image) size then apart image else all
 
 -- What taking an image promises: its answer, and every byte of the registers.
-pub record Took (image before : List ℕ) (answer : Taken) (after : List ℕ) : Type 0 where
+pub record Took (image before : List ℕ) (answer : Option Password) (after : List ℕ) : Type 0 where
   pub answered : answer ≡ taken_of image
   pub registers : after ≡ after_taking image before
 

@@ -1,24 +1,23 @@
 -- What each event asks of the switch, as a job. jobOfX is the job that X makes of a state: a deed, its bytes, their frame, its order, its
 -- work. The password is no argument of any of them; a job can hold a guess to compare with it or a function to show it by (vault).
-use Rattle.std.specs.Prelude.{ℕ, List, [], ◌∷◌, map, drop, nat_le, nat_lt, if◌then◌else◌}
+use Rattle.std.specs.Prelude.{ℕ, List, [], ◌∷◌, Result, Ok, Err, map, drop, nat_le, nat_lt, if◌then◌else◌, Option, Some, None}
 use Rattle.units.specs.Units.{percent_of}
 use Rattle.vault.specs.Job.{Job, Outcome, compare, done, nothing, outcome, reveal}
 use Rattle.vault.specs.Vault.{in_setup}
 use Rattle.vault.specs.declared.Password.{Password}
 use Rattle.lamp.specs.declared.Colour.{Colour}
 use Rattle.lamp.specs.declared.Colour.TheVariants.{Black, Red}
-use Rattle.packet.specs.Reading.{read_of, number_of_frame, message_of}
-use Rattle.packet.specs.declared.Frame.{Frame}
-use Rattle.packet.specs.declared.Frame.TheVariants as frame
+use Rattle.packet.specs.Reading.{read_of, number_of_flaw, message_of}
+use Rattle.packet.specs.declared.Header.{Header}
+use Rattle.packet.specs.declared.Flaw.{Flaw}
 use Rattle.paddle.specs.Paddle.{next_paddle}
 use Rattle.paddle.specs.declared.Paddle.{Paddle}
 use Rattle.model.specs.Model.{contact_count, room, paddle_of}
 use Rattle.writes.specs.Writes.{applied, change_of}
-use Rattle.registers.specs.declared.Seen.{Seen}
-use Rattle.registers.specs.declared.Seen.TheVariants as seen
 use Rattle.places.specs.declared.Counter.TheVariants.{Restarts}
 use Rattle.writes.specs.declared.Write.TheVariants.{Count}
-use Rattle.judge.specs.Judge.{judged}
+use Rattle.judge.specs.Judge.{judged, number_of_denied}
+use Rattle.judge.specs.declared.Denied.{Denied}
 use Rattle.judge.specs.declared.Order.{Order}
 use Rattle.judge.specs.declared.Order.TheVariants as order
 use Rattle.judge.specs.declared.Work.{Work}
@@ -87,7 +86,7 @@ unfoldable pub plain_after : Effect → List ℕ → Colour → Plain → Plain
 plain_after e values hue p = plain (applied e.write values p.registers) (signalled hue e.core) p.paddles
 
 -- A packet that is answered 0: the state after it, and the reply (01, Commands, 8) with registers and percent as they then are.
-unfoldable pub outcome_of : Effect → List ℕ → ℕ → Reply → Plain → Seen → Outcome Plain Shown
+unfoldable pub outcome_of : Effect → List ℕ → ℕ → Reply → Plain → Option Password → Outcome Plain Shown
 outcome_of e values source r p s =
     let next = plain_after e values (hue_of r) p in
     outcome (shown 0 (replied next.registers s source r (percent_of next.core.dimmer.level)) next) next
@@ -95,7 +94,7 @@ outcome_of e values source r p s =
 -- 01, Commands, 3 (0x03) and 01, Answer numbers, row 14: the right guess opens Setup, a wrong one is refused.
 unfoldable pub job_of_guess : Password → Plain → SwitchJob
 job_of_guess guess p =
-    compare guess (outcome_of (opened p.core) [] 0 reply.Silence p seen.Hidden) (refused 14 p)
+    compare guess (outcome_of (opened p.core) [] 0 reply.Silence p None) (refused 14 p)
 
 -- 01, Commands, 3 (0x10) and 9: in Setup the password is read with the rest, elsewhere as zeros.
 unfoldable pub job_of_read : ℕ → ℕ → ℕ → Plain → SwitchJob
@@ -103,21 +102,21 @@ job_of_read first count source p =
     let o = unwritten p.core in
     let r = reply.Registers first count in
     if in_setup p.core.mode
-    then reveal (λ w. (outcome_of o [] source r p (seen.Shown w)).shown) (outcome_of o [] source r p seen.Hidden).next
-    else done (outcome_of o [] source r p seen.Hidden) nothing
+    then reveal (λ w. (outcome_of o [] source r p (Some w)).shown) (outcome_of o [] source r p None).next
+    else done (outcome_of o [] source r p None) nothing
 
 -- A work. The values are those of Set Registers.
 unfoldable pub job_of_work : Work → ℕ → List ℕ → Plain → SwitchJob
 job_of_work w source values p =
     let e = performed p.registers w p.core in
-    done (outcome_of e values source (reply_to w) p seen.Hidden) (change_of e.write values)
+    done (outcome_of e values source (reply_to w) p None) (change_of e.write values)
 
 -- What the judgement orders, 9 to 13 refused without a signal (01, Lamp, start, factory values, 3).
-unfoldable pub job_of_order : Order → ℕ → List ℕ → Plain → SwitchJob
-job_of_order (order.Refused n) source values p = done (refused n p) nothing
-job_of_order (order.Guess guess) source values p = job_of_guess guess p
-job_of_order (order.Read first count) source values p = job_of_read first count source p
-job_of_order (order.Work w) source values p = job_of_work w source values p
+unfoldable pub job_of_order : Result Order Denied → ℕ → List ℕ → Plain → SwitchJob
+job_of_order (Err d) source values p = done (refused (number_of_denied d) p) nothing
+job_of_order (Ok (order.Guess guess)) source values p = job_of_guess guess p
+job_of_order (Ok (order.Read first count)) source values p = job_of_read first count source p
+job_of_order (Ok (order.Work w)) source values p = job_of_work w source values p
 
 -- 01, Answer numbers, 2 and 01, Lamp, start, factory values, 1 (diagnostic): 4 to 8 begin the black signal and change nothing else.
 unfoldable pub garbled : ℕ → Plain → Outcome Plain Shown
@@ -126,18 +125,14 @@ garbled number p =
     outcome (shown number [] next) next
 
 -- A packet that the reader refuses: the number is the reader's.
-abbrev unread : Frame → Plain → SwitchJob
-unread f p = done (garbled (number_of_frame f) p) nothing
+abbrev unread : Flaw → Plain → SwitchJob
+unread flaw p = done (garbled (number_of_flaw flaw) p) nothing
 
 -- 01, Answer numbers, 1: what the reader refuses is not judged. The values of a Set stand behind the command and the first register.
-unfoldable pub job_of_frame : Frame → List ℕ → Plain → SwitchJob
-job_of_frame (frame.Read header) message p =
+unfoldable pub job_of_frame : Result Header Flaw → List ℕ → Plain → SwitchJob
+job_of_frame (Ok header) message p =
     job_of_order (judged p.registers p.core.mode header message) header.source (drop 2 message) p
-job_of_frame frame.Short message p = unread frame.Short p
-job_of_frame frame.Long message p = unread frame.Long p
-job_of_frame frame.Length message p = unread frame.Length p
-job_of_frame frame.Sum message p = unread frame.Sum p
-job_of_frame frame.Reserved message p = unread frame.Reserved p
+job_of_frame (Err flaw) message p = unread flaw p
 
 -- A received packet is read first.
 unfoldable pub job_of_bytes : List ℕ → Plain → SwitchJob

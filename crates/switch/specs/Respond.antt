@@ -1,5 +1,5 @@
 -- The whole switch: what it answers to any event, and what the contracts of its functions promise.
-use Rattle.std.specs.Prelude.{◌≡◌, ℕ, Bool, List, [], length, replicate, ◌==◌, if◌then◌else◌}
+use Rattle.std.specs.Prelude.{◌≡◌, ℕ, Bool, List, [], length, replicate, ◌==◌, if◌then◌else◌, None}
 use Rattle.vault.specs.Job.{Answered, Switch, switch}
 use Rattle.vault.specs.Product.{Product}
 use Rattle.vault.specs.Product
@@ -9,7 +9,6 @@ use Rattle.lamp.specs.declared.Colour.TheVariants.{Black}
 use Rattle.outbox.specs.Outbox.{placed, tally}
 use Rattle.places.specs.Places.{size}
 use Rattle.registers.specs.Registers.{apart, number_taken, password_in}
-use Rattle.registers.specs.declared.Taken.TheVariants.{Refused}
 use Rattle.state.specs.State.{counter_count, number_count}
 use Rattle.state.specs.Keeping.{kept_counters, kept_numbers}
 use Rattle.panel.specs.Panel.{byte_count, kept_paddles}
@@ -60,7 +59,7 @@ whole image = length image == size
 
 -- 01, Answer numbers, rows 0 and 1: 0 with the switch as it starts, or 1.
 unfoldable pub start_answer : List ℕ → Answer
-start_answer image = if whole image then answer_of 0 [] (started_from image).plain else no_answer (number_taken Refused)
+start_answer image = if whole image then answer_of 0 [] (started_from image).plain else no_answer (number_taken None)
 
 -- What the start promises: accepted, the switch of the image is kept over cleared arrays; refused, every array is as it was.
 pub record Starts {X : Type 0} (told : Answer → X) (image counters numbers paddles all : List ℕ) (answer : X) (counters' numbers' paddles' all' : List ℕ) : Type 0 where

@@ -5,6 +5,7 @@ ghost use Rattle.std.specs.Prelude.{◌≡◌};
 ghost use Rattle.verbs.specs.Verbs.{verb_of, listed, argument, optional, arguments, registers_in_range, values, suits};
 
 // The commands. Open and Close are Start and Stop Setup, Store is Store Preset; Unlisted is every number that is none.
+// Stays as it is: `suits`, and above it `permitted` of reach, answer for Unlisted too, and may not take a narrower type.
 #[derive(Clone, Copy)]
 pub enum Verb {
     Open,
@@ -25,6 +26,7 @@ pub enum Verb {
 // The most registers that one Get or Set may name.
 const MOST: usize = 16;
 
+#[tactic(auto, unfolding(crate::specs::Verbs::verb_of))]
 pub fn verb_of(number: u8) -> Verb
     ensures { result ≡ verb_of number }
 {
@@ -55,13 +57,11 @@ pub fn argument(message: &[u8], i: usize) -> u8
 pub fn optional(message: &[u8], i: usize, missing: u8) -> u8
     ensures { result ≡ optional message.now i missing }
 {
-    if i < message.len() {
-        return message[i];
-    }
-    missing
+    message.get(i).copied().unwrap_or(missing)
 }
 
 // Whether the message has at least and at most so many arguments.
+#[tactic(auto, unfolding(crate::specs::Verbs::arguments))]
 fn arguments(message: &[u8], least: u8, most: u8) -> bool
     ensures { result ≡ arguments message.now least most }
 {
@@ -71,13 +71,11 @@ fn arguments(message: &[u8], least: u8, most: u8) -> bool
 fn values(message: &[u8]) -> usize
     ensures { result ≡ values message.now }
 {
-    if message.len() < 2 {
-        return 0;
-    }
-    message.len() - 2
+    message.len().saturating_sub(2)
 }
 
 // 1 to 16 registers, none past 0xFF.
+#[tactic(auto, unfolding(crate::specs::Verbs::registers_in_range))]
 fn in_range(first: u8, count: usize) -> bool
     ensures { result ≡ registers_in_range first count }
 {
@@ -88,41 +86,27 @@ impl Verb {
     pub fn listed(self) -> bool
         ensures { result ≡ listed self }
     {
-        match self {
-            Verb::Open => true,
-            Verb::Close => true,
-            Verb::Get => true,
-            Verb::Set => true,
-            Verb::Activate => true,
-            Verb::Deactivate => true,
-            Verb::Goto => true,
-            Verb::FadeStart => true,
-            Verb::FadeStop => true,
-            Verb::Blink => true,
-            Verb::Report => true,
-            Verb::Store => true,
-            Verb::Unlisted => false,
-        }
+        !matches!(self, Verb::Unlisted)
     }
 
     // Whether the arguments suit the command: their count, and the range of registers.
+    #[tactic(auto, unfolding(crate::specs::Verbs::suits))]
     pub fn suits(self, message: &[u8]) -> bool
         ensures { result ≡ suits self message.now }
     {
         match self {
             Verb::Open => arguments(message, 2, 2),
-            Verb::Close => arguments(message, 0, 0),
             Verb::Get => arguments(message, 2, 2)
                 && in_range(argument(message, 1), argument(message, 2) as usize),
             Verb::Set => in_range(argument(message, 1), values(message)),
-            Verb::Activate => arguments(message, 0, 0),
-            Verb::Deactivate => arguments(message, 0, 0),
-            Verb::Goto => arguments(message, 1, 2),
-            Verb::FadeStart => arguments(message, 1, 2),
-            Verb::FadeStop => arguments(message, 0, 0),
+            Verb::Goto | Verb::FadeStart => arguments(message, 1, 2),
             Verb::Blink => arguments(message, 0, 1),
-            Verb::Report => arguments(message, 0, 0),
-            Verb::Store => arguments(message, 0, 0),
+            Verb::Close
+            | Verb::Activate
+            | Verb::Deactivate
+            | Verb::FadeStop
+            | Verb::Report
+            | Verb::Store => arguments(message, 0, 0),
             Verb::Unlisted => false,
         }
     }

@@ -2,46 +2,25 @@
 #![tactic(auto)]
 
 ghost use Rattle.std.specs.Prelude.{◌≡◌};
-ghost use Rattle.verdict.specs.Code.{verdict_on, verdict_of, seen_by};
+ghost use Rattle.verdict.specs.Code.{verdict_of, seen_by};
 
-use judge::Order;
-use registers::Seen;
+use judge::{Denied, Order};
 use vault::{Mode, Password};
 
-// Whether an order is refused, its guess compared with the password, or granted.
-#[derive(Clone, Copy)]
-pub enum Verdict {
-    Stop(u8),
-    Go,
-}
-
-// A wrong password is refused by 14.
-pub fn verdict_of(order: Order, password: Password) -> Verdict
+// An order stays what it is, but a guess at another password is refused.
+#[tactic(auto, unfolding(crate::specs::Code::verdict_of, crate::specs::Code::verdict_on))]
+pub fn verdict_of(order: Result<Order, Denied>, password: Password) -> Result<Order, Denied>
     ensures { result ≡ verdict_of order password }
 {
-    match order {
-        Order::Refused(number) => Verdict::Stop(number),
-        Order::Guess(guess) => opening(password, guess),
-        Order::Read { .. } => Verdict::Go,
-        Order::Work(_) => Verdict::Go,
+    match order? {
+        Order::Guess(guess) if !password.matches(guess) => Err(Denied::Password),
+        granted => Ok(granted),
     }
 }
 
-fn opening(password: Password, guess: Password) -> Verdict
-    ensures { result ≡ verdict_on password guess }
-{
-    if password.matches(guess) {
-        return Verdict::Go;
-    }
-    Verdict::Stop(14)
-}
-
-pub fn seen_by(mode: Mode, password: Password) -> Seen
+#[tactic(auto, unfolding(crate::specs::Code::seen_by))]
+pub fn seen_by(mode: Mode, password: Password) -> Option<Password>
     ensures { result ≡ seen_by mode password }
 {
-    match mode {
-        Mode::Normal => Seen::Hidden,
-        Mode::Setup => Seen::Shown(password),
-        Mode::Factory => Seen::Hidden,
-    }
+    (mode == Mode::Setup).then_some(password)
 }

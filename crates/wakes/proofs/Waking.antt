@@ -1,5 +1,5 @@
 -- The start and the restart, over what their callees promise.
-use Rattle.std.specs.Prelude.{◌≡◌, ℕ, ◌≤◌, Bool, true, false, eqb, List, [], length, replicate}
+use Rattle.std.specs.Prelude.{◌≡◌, ℕ, ◌≤◌, Bool, true, false, eqb, List, [], length, replicate, Option, Some, None}
 use mathlib.Core.Path.{refl, ap, subst, ◌∙◌}
 use native.Mathlib.Omega.{arith}
 use borrow.Author.Tests.{eqb-true, eqb-false}
@@ -11,10 +11,8 @@ use Rattle.acts.specs.declared.Core.{Core}
 use Rattle.outbox.specs.Outbox.{placed, tally}
 use Rattle.outbox.specs.declared.Sent.{Sent}
 use Rattle.places.specs.Places.{size}
-use Rattle.registers.specs.Registers.{apart, number_taken, password_in}
+use Rattle.registers.specs.Registers.{apart, password_in}
 use Rattle.writes.specs.Writes.{applied}
-use Rattle.registers.specs.declared.Taken.{Taken}
-use Rattle.registers.specs.declared.Taken.TheVariants.{Apart, Refused}
 use Rattle.places.specs.declared.Counter.TheVariants.{Restarts}
 use Rattle.writes.specs.declared.Write.TheVariants.{Count}
 use Rattle.registers.proofs.Laws.{image_taken, image_refused}
@@ -59,8 +57,8 @@ restart_responds c n l all out w r c' n' l' all' enough own wakes =
 
 -- An image that is taken starts a switch; any other starts none.
 pub starts :
-    (image c n l all all₁ : List ℕ) (taken : Taken) (w : Password) (r : Answer) (c' n' l' all' : List ℕ)
-    → Took image all taken all₁ → taken ≡ Apart w
+    (image c n l all all₁ : List ℕ) (taken : Option Password) (w : Password) (r : Answer) (c' n' l' all' : List ℕ)
+    → Took image all taken all₁ → taken ≡ Some w
     → Wakes w (replicate counter_count 0) (replicate number_count 0) (replicate byte_count 0) all₁ r c' n' l' all'
     → Starts (λ a. a) image c n l all r c' n' l' all'
 unfolding start_answer started_from woken
@@ -69,7 +67,7 @@ starts image c n l all all₁ taken w r c' n' l' all' took e wakes = by_size (eq
     by_size : (b : Bool) → eqb (length image) size ≡ b → Starts (λ a. a) image c n l all r c' n' l' all'
     by_size true h =
         let t = image_taken image all (eqb-true (length image) size h) in
-        let given : taken ≡ Apart (password_in image) = took.answered ∙ t.0 in
+        let given : taken ≡ Some (password_in image) = took.answered ∙ t.0 in
         let own : w ≡ password_in image = cc in
         let bare : all₁ ≡ apart image = took.registers ∙ t.1 in
         record {
@@ -81,28 +79,21 @@ starts image c n l all all₁ taken w r c' n' l' all' took e wakes = by_size (eq
         }
     by_size false h =
         let t = image_refused image all (eqb-false (length image) size h) in
-        let given : taken ≡ Refused = took.answered ∙ t.0 in
+        let given : taken ≡ None = took.answered ∙ t.0 in
         let z : ◌≡◌ {A = ℕ} 0 1 = cc in
         absurd (omega arith)
 
 pub starts_none :
-    (image c n l all all₁ : List ℕ) (taken : Taken) (number : ℕ) (r : Answer)
-    → Took image all taken all₁ → taken ≡ Refused → number ≡ number_taken taken → r ≡ no_answer number → Starts (λ a. a) image c n l all r c n l all₁
+    (image c n l all all₁ : List ℕ) (taken : Option Password) (r : Answer)
+    → Took image all taken all₁ → ((w : Password) → taken ≡ Some w → ⊥) → r ≡ no_answer 1 → Starts (λ a. a) image c n l all r c n l all₁
 unfolding start_answer
-starts_none image c n l all all₁ taken number r took e m f = by_size (eqb (length image) size) refl
+starts_none image c n l all all₁ taken r took none f = by_size (eqb (length image) size) refl
   where
     by_size : (b : Bool) → eqb (length image) size ≡ b → Starts (λ a. a) image c n l all r c n l all₁
     by_size true h =
         let t = image_taken image all (eqb-true (length image) size h) in
-        let given : taken ≡ Apart (password_in image) = took.answered ∙ t.0 in
-        let z : ◌≡◌ {A = ℕ} 0 1 = cc in
-        absurd (omega arith)
+        absurd (none (password_in image) (took.answered ∙ t.0))
     by_size false h =
         let t = image_refused image all (eqb-false (length image) size h) in
         let bare : all₁ ≡ all = took.registers ∙ t.1 in
-        record { answered = simp (h, f, m, e); counted = simp h; numbered = simp h; moved = simp h; registers = simp (h, bare) }
-
--- What `let Taken::Apart(..) = taken else` leaves is a refusal.
-pub not_taken : (t : Taken) → ((w : Password) → t ≡ Apart w → ⊥) → t ≡ Refused
-not_taken (Apart w) k = absurd (k w refl)
-not_taken Refused k = refl
+        record { answered = simp (h, f); counted = simp h; numbered = simp h; moved = simp h; registers = simp (h, bare) }

@@ -15,7 +15,6 @@ use model::ROOM;
 use outbox::Sent;
 use panel::BYTES;
 use places::Counter;
-use registers::Taken;
 use state::parts::{keep, password_of};
 use state::{COUNTERS, NUMBERS};
 use switch::{show, shown};
@@ -34,9 +33,8 @@ pub fn start(
 ) -> Answer
     ensures { Starts (λ a. a) image.now counters.old numbers.old paddles.old all.old result counters.new numbers.new paddles.new all.new }
 {
-    let taken = registers::take(image, all);
-    let Taken::Apart(password) = taken else {
-        return nobody(taken.number());
+    let Some(password) = registers::take(image, all) else {
+        return nobody();
     };
     *counters = [0; COUNTERS];
     *numbers = [0; NUMBERS];
@@ -84,12 +82,12 @@ fn wake(
 }
 
 // What is answered where no switch was started.
-fn nobody(number: u8) -> Answer
-    ensures { result ≡ no_answer number }
+fn nobody() -> Answer
+    ensures { result ≡ no_answer 1 }
 {
     Answer {
         sent: Sent::none(),
-        number,
+        number: 1,
         level: Step::OFF,
         output: Step::OFF,
         colour: Colour::Black,

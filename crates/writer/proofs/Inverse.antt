@@ -1,4 +1,5 @@
 -- Reading and writing are inverses of each other, of lists of bytes and of the caller's buffer.
+use Rattle.std.specs.Prelude.{Ok}
 use Prim.Native.Nat.{ℕ, suc, ◌+◌, ◌-◌, ◌*◌, ◌/◌, ◌%◌, ◌≤◌, ◌<◌}
 use native.Mathlib.Nat.{div-div-eq-div-mul}
 use native.Mathlib.Omega.{arith}
@@ -11,7 +12,6 @@ use lib.Seq.{drop-cons, take_at, drop_at, take_all, take-suc, get_or-drop}
 use Rattle.words.specs.Words.{Bytes}
 use Rattle.words.proofs.Laws.{cases}
 use Rattle.packet.specs.declared.Header.{Header}
-use Rattle.packet.specs.declared.Frame.TheVariants.{Read}
 use Rattle.packet.specs.Layout.{first_byte, link_bit, repeat_in, whole_in, second_byte, reserved_in, request_in, count_in, sequence_in, header_in, head_bytes, total, balance, packed}
 use Rattle.packet.specs.Reading.{read_of, message_of}
 use Rattle.writer.specs.Writing.{laid}
@@ -77,8 +77,8 @@ reads_back h m r =
     let long : n ≡ length m + 6 = packed_length h m in
     let first = first_back h.link h.repeat (length m + 6) r.repeat (omega arith) in
     let second = second_back h.request h.count h.sequence r.request r.count r.sequence in
-    let header : read_of (packed h m) ≡ Read h =
-    only (Read h) (packed h m)
+    let header : read_of (packed h m) ≡ Ok h =
+    only (Ok h) (packed h m)
     record {
       least = omega arith;
       most = omega arith;
@@ -104,7 +104,7 @@ five p h =
     rw (← drop-cons p 4 0 (omega arith), ← drop-cons p 3 0 (omega arith), ← drop-cons p 2 0 (omega arith), ← drop-cons p 1 0 (omega arith), ← drop-cons p 0 0 (omega arith))
 
 -- A packet that is read ends in its message and its checksum.
-tail : (p : List ℕ) (h : Header) → read_of p ≡ Read h → message_of p ++ get_or p (length p - 1) 0 ∷ [] ≡ drop 5 p
+tail : (p : List ℕ) (h : Header) → read_of p ≡ Ok h → message_of p ++ get_or p (length p - 1) 0 ∷ [] ≡ drop 5 p
 tail p h e =
     let s = sound p h e in
     let q = drop 5 p in
@@ -114,7 +114,7 @@ tail p h e =
     rw (message_is p h e, ← last, ← take-suc q j 0 (simp length-drop (omega arith))) (take_all (suc j) q (simp length-drop (omega arith)))
 
 -- A packet that is read is its header's five bytes, its message and a last byte.
-pub parted : (p : List ℕ) (h : Header) → Bytes p → read_of p ≡ Read h
+pub parted : (p : List ℕ) (h : Header) → Bytes p → read_of p ≡ Ok h
     → head_bytes h (length (message_of p)) (message_of p) ++ get_or p (length p - 1) 0 ∷ [] ≡ p
 unfolding head_bytes header_in
 parted p h bytes e =

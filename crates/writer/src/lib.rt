@@ -1,8 +1,7 @@
 // A packet written from its header and its message, by the layout that it is read by.
 #![tactic(auto)]
 
-ghost use Rattle.std.specs.Prelude.{◌≡◌, ◌+◌, ◌≤◌, true, ◌++◌, length, drop};
-ghost use Rattle.std.proofs.Math.Seq.{paste};
+ghost use Rattle.std.specs.Prelude.{◌≡◌, ◌+◌, ◌≤◌, true, [], ◌++◌, length, drop};
 ghost use Rattle.packet.specs.Layout.{first_byte, second_byte, head_bytes, balance, packed};
 ghost use Rattle.writer.specs.Writing.{fields_in_range, Wrote};
 
@@ -14,50 +13,40 @@ const LONGEST: usize = 18;
 // The bytes around a message: the five of the header, and the checksum.
 const AROUND: u8 = 6;
 
-// The writer's answer: how long the packet is, or one of the numbers 15 and 2.
-#[derive(Clone, Copy)]
-pub enum Written {
-    Packet(u8),
+// Why the writer refuses: the numbers 15 and 2.
+#[derive(Clone, Copy, Debug, PartialEq, Eq)]
+pub enum Unwritten {
     Field,
     Short,
 }
 
-// Lays header, message and checksum at the front of the buffer, or leaves it alone.
-pub fn write(header: Header, message: &[u8], out: &mut [u8]) -> Written
+// Lays header, message and checksum at the front of the buffer and answers how long the packet is, or leaves the buffer alone.
+#[tactic(auto, using(crate::proofs::Laws::ranges), unfolding(crate::specs::Writing::written_of, crate::specs::Writing::laid))]
+pub fn write(header: Header, message: &[u8], out: &mut [u8]) -> Result<u8, Unwritten>
     ensures { Wrote header message.now out.old result out.new }
 {
     let size = message.len();
-    let ranged = ranged(header, size);
-    if !ranged {
-        return Written::Field;
+    if !ranged(header, size) {
+        return Err(Unwritten::Field);
     }
     let whole = size as u8 + AROUND;
     if out.len() < whole as usize {
-        return Written::Short;
+        return Err(Unwritten::Short);
     }
     lay(header, message, out);
-    Written::Packet(whole)
+    Ok(whole)
 }
 
+#[tactic(auto, unfolding(crate::specs::Writing::fields_in_range))]
 fn ranged(header: Header, size: usize) -> bool
     ensures { result ≡ fields_in_range header size }
 {
-    if TWO_BITS < header.repeat {
-        return false;
-    }
-    if THREE_BITS < header.request {
-        return false;
-    }
-    if TWO_BITS < header.count {
-        return false;
-    }
-    if TWO_BITS < header.sequence {
-        return false;
-    }
-    if size < 1 {
-        return false;
-    }
-    size <= LONGEST
+    header.repeat <= TWO_BITS
+        && header.request <= THREE_BITS
+        && header.count <= TWO_BITS
+        && header.sequence <= TWO_BITS
+        && 1 <= size
+        && size <= LONGEST
 }
 
 // The packet at the front of the buffer.
@@ -66,23 +55,25 @@ fn lay(header: Header, message: &[u8], out: &mut [u8])
     ensures { out.new ≡ packed header message.now ++ drop (length message.now + 6) out.old }
 {
     let size = message.len();
-    head(header, size, out);
-    copy(message, out);
     let checksum = HEAD + size;
-    let sum = sum(&out[..checksum]);
-    out[checksum] = balance(sum);
+    out[..HEAD].copy_from_slice(&head(header, size));
+    out[HEAD..checksum].copy_from_slice(message);
+    out[checksum] = balance(sum(&out[..checksum]));
 }
 
 // The five bytes before the message.
-fn head(header: Header, size: usize, out: &mut [u8])
-    requires { (fields_in_range header size ≡ true) × (5 ≤ length out.old) }
-    ensures { out.new ≡ head_bytes header size (drop 5 out.old) }
+#[tactic(auto, using(crate::proofs::Laws::ranges), unfolding(packet::specs::Layout::head_bytes))]
+fn head(header: Header, size: usize) -> [u8; HEAD]
+    requires { fields_in_range header size ≡ true }
+    ensures { result ≡ head_bytes header size [] }
 {
-    out[0] = first(header.link, header.repeat, size as u8 + AROUND);
-    out[1] = second(header.request, header.count, header.sequence);
-    out[2] = header.network;
-    out[3] = header.destination;
-    out[4] = header.source;
+    [
+        first(header.link, header.repeat, size as u8 + AROUND),
+        second(header.request, header.count, header.sequence),
+        header.network,
+        header.destination,
+        header.source,
+    ]
 }
 
 fn first(link: bool, repeat: u8, whole: u8) -> u8
@@ -104,16 +95,4 @@ fn balance(sum: u8) -> u8
     ensures { result ≡ balance sum }
 {
     ((256 - sum as u16) % 256) as u8
-}
-
-// The message, from byte 5 on.
-fn copy(message: &[u8], out: &mut [u8])
-    requires { 5 + length message.now ≤ length out.old }
-    ensures { out.new ≡ paste out.old 5 message.now (length message.now) }
-{
-    let mut done = 0;
-    while done < message.len() {
-        out[HEAD + done] = message[done];
-        done += 1;
-    }
 }

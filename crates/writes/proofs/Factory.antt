@@ -2,20 +2,20 @@
 use mathlib.Core.Bool.{Bool, true, false, cond, ◌&&◌, and-false}
 use mathlib.Core.List.{List, []}
 use mathlib.Core.Path.{◌≡◌, refl, sym, ap, ◌∙◌}
-use Prim.Native.Nat.{ℕ, zero, suc, ◌+◌, ◌-◌, ◌<◌}
-use native.Mathlib.Nat.{add-zero}
+use Prim.Native.Nat.{ℕ, ◌+◌, ◌-◌, ◌<◌, ◌≤◌}
 use native.Mathlib.Omega.{arith}
 use lib.Dec.{eqb, ltb, leb}
-use lib.ListN.{length, get_or}
+use lib.ListN.{length, get_or, set, replicate, length-drop, length-replicate, length-take}
 use lib.Seq.{ext_get_or}
-use borrow.Author.Tests.{ne_eqb, eq-eqb, lt-ltb, le-ltb, le-leb, lt-leb}
-use Rattle.words.proofs.Laws.{three_ways, two_ways}
+use borrow.Rule.Slice.PartMut.{mid_of, put_mid}
+use Rattle.std.proofs.lemmas.List.{get_or-replicate}
+use borrow.Author.Tests.{ne_eqb, le-ltb, lt-leb}
+use Rattle.words.proofs.Laws.{two_ways}
 use Rattle.places.specs.Places.{size, first_place, second_place, secret}
 use Rattle.writes.specs.Writes.{applied, byte_after, byte_set, factory_actions, factory_at, factory_by, sets, stored, values_by}
 use Rattle.writes.specs.declared.Write.TheVariants.{Factory, Values}
-use Rattle.writes.specs.Code.{filled}
 use Rattle.places.proofs.Laws.{not_secret}
-use Rattle.writes.proofs.Writing.{stored_length, stored_secret, stored_at, factory_in, write_at, write_length, write_secret}
+use Rattle.writes.proofs.Writing.{stored_length, stored_secret, stored_at, factory_in, values_laid, write_at, write_length, write_secret}
 
 -- What registers have become: as many, the same at the password's places, and at each other place what the rule says.
 record Became (all l : List ℕ) (rule : ℕ → ℕ) : Type 0 where
@@ -55,55 +55,59 @@ module _ {all l : List ℕ} {rule : ℕ → ℕ} (h : Became all l rule) where
   }
 
 -- or a stretch of one value.
-longer : (first n value k old : ℕ)
-    → cond (eqb k (first + n)) value (cond (leb first k && ltb k (first + n)) value old) ≡ cond (leb first k && ltb k (first + suc n)) value old
-longer first n value k old =
-    three_ways k (first + n)
-    (λ under. simp (ne_eqb k (first + n) (λ e. omega arith), lt-ltb k (first + n) under, lt-ltb k (first + suc n) (omega arith)))
-    (λ same. simp (eq-eqb k (first + n) same, le-leb first k (omega arith), lt-ltb k (first + suc n) (omega arith)))
+in_stretch : (first n value k old : ℕ)
+    → cond (leb first k && ltb k (first + n)) (get_or (replicate n value) (k - first) 0) old ≡ cond (leb first k && ltb k (first + n)) value old
+in_stretch first n value k old =
+    two_ways k first (λ under. simp (lt-leb first k under))
     (λ over.
-    simp (
-      ne_eqb k (first + n) (λ e. omega arith),
-      le-ltb k (first + n) (omega arith),
-      le-ltb k (first + suc n) (omega arith),
-      and-false (leb first k),
-    ))
+    two_ways k (first + n) (λ inside. let at : k - first < n = omega arith in rw (get_or-replicate n (k - first) value 0 at))
+    (λ past. simp (le-ltb k (first + n) past, and-false (leb first k))))
 
 became_filled : {all l : List ℕ} {rule : ℕ → ℕ} → Became all l rule → (first n value : ℕ)
-    → Became all (filled first n value l) (λ k. cond (leb first k && ltb k (first + n)) value (rule k))
-unfolding filled
-became_filled h first zero value = record {
-  many = h.many;
-  hidden = h.hidden;
-  plain = λ k within e.
-      h.plain k within e
-      ∙ two_ways k first (λ under. simp (lt-leb first k under)) (λ over. simp (add-zero first, le-ltb k first over, and-false (leb first k)));
-}
-became_filled {rule = rule} h first (suc n) value =
-    let more = became_stored (became_filled h first n value) (first + n) value in
+    → Became all (values_by n first (replicate n value) l) (λ k. cond (leb first k && ltb k (first + n)) value (rule k))
+became_filled {all} {l} {rule} h first n value =
+    let many : length (replicate n value) ≡ n = length-replicate n value in
+    let is = became_values h first (replicate n value) in
     record {
-      many = more.many;
-      hidden = more.hidden;
-      plain = λ k within e. more.plain k within e ∙ longer first n value k (rule k);
+      many = rw many at is.many;
+      hidden = rw many at is.hidden;
+      plain = λ k within e. rw many at (is.plain k within e) ∙ in_stretch first n value k (rule k);
     }
 
+-- The registers once all but the last stretch is laid.
+abbrev acted : (all filled actions : List ℕ) → List ℕ
+acted all filled actions = put_mid 0x7A 8 (set (set (put_mid 0x40 0x80 all filled) 0x8D 0x13) 0x8B 0x09) actions
+
+-- As many places as lie in a stretch.
+length_mid : (first n : ℕ) (l : List ℕ) → length l ≡ size → first + n ≤ size → length (mid_of first n l) ≡ n
+length_mid first n l len within = simp (length-take, length-drop) (omega arith)
+
 -- The stretches and the single places come to the factory values.
-pub stretches : (all : List ℕ) → length all ≡ size
-    → stored 0x00 255
-    (stored 0x01 1
-    (filled 0x10 0x30 0
-    (values_by 8 0x7A factory_actions (stored 0x8B 0x09 (stored 0x8D 0x13 (filled 0x40 0x80 255 all))))))
-    ≡ factory_by size all
-unfolding applied factory_at
-stretches all len =
+pub stretches : (all filled actions cleared : List ℕ) → length all ≡ size → filled ≡ replicate (length (mid_of 0x40 0x80 all)) 255
+    → actions ≡ factory_actions → cleared ≡ replicate (length (mid_of 0x10 0x30 (acted all filled actions))) 0
+    → set (set (put_mid 0x10 0x30 (acted all filled actions) cleared) 0x01 1) 0x00 255 ≡ factory_by size all
+unfolding applied factory_at stored
+stretches all filled actions cleared len f a c =
     let start : Became all all (λ k. get_or all k 0) = record { many = len; hidden = λ _ _. refl; plain = λ _ _ _. refl } in
     let filling = became_filled start 0x40 0x80 255 in
     let options = became_stored (became_stored filling 0x8D 0x13) 0x8B 0x09 in
-    let clearing = became_filled (became_values options 0x7A factory_actions) 0x10 0x30 0 in
-    one_list (became_stored (became_stored clearing 0x01 1) 0x00 255) (record {
+    let acting = became_values options 0x7A factory_actions in
+    let clearing = became_filled acting 0x10 0x30 0 in
+    let so : acted all filled actions ≡ values_by 8 0x7A factory_actions (set (set (values_by 0x80 0x40 (replicate 0x80 255) all) 0x8D 0x13) 0x8B 0x09) =
+    rw (
+      values_laid 0x40 0x80 0x80 (replicate 0x80 255) all filled (omega arith) (omega arith) len refl (sym (length-replicate {A = ℕ} 0x80 255))
+          (f ∙ ap (λ (n : ℕ). replicate n 255) (length_mid 0x40 0x80 all len (omega arith))),
+      values_laid 0x7A 8 8 factory_actions _ actions (omega arith) (omega arith) options.many refl refl a,
+    ) in
+    rw (
+      values_laid 0x10 0x30 0x30 (replicate 0x30 0) _ cleared (omega arith) (omega arith) (ap length so ∙ acting.many) refl (sym (length-replicate {A = ℕ} 0x30 0))
+          (c ∙ ap (λ (n : ℕ). replicate n 0) (length_mid 0x10 0x30 (acted all filled actions) (ap length so ∙ acting.many) (omega arith))),
+      so,
+    )
+    (one_list (became_stored (became_stored clearing 0x01 1) 0x00 255) (record {
       many = write_length Factory [] all ∙ len;
       hidden = write_secret Factory [] all;
       plain = λ k within e.
           factory_in size all k len within (omega arith) e
           ∙ simp (ne_eqb k first_place (not_secret k e).0, ne_eqb k second_place (not_secret k e).1);
-    })
+    }))

@@ -4,10 +4,13 @@ use mathlib.Core.List.{List}
 use mathlib.Core.Logic.{◌≢◌}
 use mathlib.Core.Path.{◌≡◌, refl, sym, ap, ap₂, ◌∙◌}
 use Prim.Native.Nat.{ℕ, zero, suc, ◌+◌, ◌-◌, ◌≤◌, ◌<◌}
+use native.Mathlib.Numerals.{add-one}
 use native.Mathlib.Omega.{arith}
 use lib.Dec.{eqb, ltb, leb}
 use lib.ListN.{length, get_or, set, length-set, get_or-eq_default}
-use lib.Seq.{get_or-set_same, get_or-set_other}
+use lib.Seq.{get_or-set_same, get_or-set_other, paste, paste-zero, paste-suc}
+use borrow.Rule.Slice.PartMut.{put_mid}
+use Rattle.std.proofs.lemmas.Slice.{put_mid-paste}
 use borrow.Author.Tests.{eqb-true, eqb-false, ne_eqb, lt-ltb, le-ltb, le-leb, lt-leb, ltb-false, leb-false}
 use Rattle.words.proofs.Laws.{both, cases, neither, two_ways}
 use Rattle.units.specs.declared.Percent.{Percent}
@@ -29,6 +32,27 @@ use Rattle.writes.specs.Code.{touches}
 pub stored_plain : (place value : ℕ) (all : List ℕ) → second_place < place → place < size → stored place value all ≡ set all place value
 unfolding stored
 stored_plain place value all past within = simp (plain place past, lt-ltb place size within)
+
+-- Values laid over a stretch past 0x03 and within the registers are stored one by one.
+values_pasted : (n first : ℕ) (values all : List ℕ) → second_place < first → first + n ≤ size → length all ≡ size → n ≤ length values
+    → paste all first values n ≡ values_by n first values all
+unfolding values_by
+values_pasted zero first values all past within len given = sym (paste-zero all first values)
+values_pasted (suc n) first values all past within len given =
+    sym (paste-suc all first values n 0 (omega arith) (omega arith))
+    ∙ ap (λ l. set l (first + n) (get_or values n 0)) (values_pasted n first values all past (omega arith) len (omega arith))
+    ∙ sym (stored_plain (first + n) (get_or values n 0) (values_by n first values all) (omega arith) (omega arith))
+
+pub values_laid : (first k n : ℕ) (values all laid : List ℕ) → second_place < first → first + n ≤ size → length all ≡ size → n ≡ k → n ≡ length values
+    → laid ≡ values → put_mid first k all laid ≡ values_by n first values all
+values_laid first k n values all laid past within len same count is =
+    put_mid-paste first k all laid values n is same count ∙ values_pasted n first values all past within len (omega arith)
+
+-- One value more stored.
+pub values_more : (n first value : ℕ) (values all : List ℕ) → value ≡ get_or values n 0
+    → stored (first + n) value (values_by n first values all) ≡ values_by (n + 1) first values all
+unfolding values_by
+values_more n first value values all e = rw (add-one n, e)
 
 -- Storing one byte keeps the length, every other place and the password's places; the place itself then holds the byte.
 module _ (place value : ℕ) (all : List ℕ) where

@@ -1,18 +1,13 @@
 -- What the code and the proofs are cut by: no promise under the roof needs a definition of this file.
-use Rattle.std.specs.Prelude.{Bool, false, List, ℕ, zero, suc, ◌+◌, ◌<◌, if◌then◌else◌}
+use Rattle.std.specs.Prelude.{Bool, false, ℕ, ◌<◌, if◌then◌else◌}
 use Rattle.places.specs.Places.{secret}
 use Rattle.writes.specs.declared.Write.{Write}
 use Rattle.writes.specs.declared.Write.TheVariants.{Nothing, Count, Save, Preset, Factory, Values}
-use Rattle.writes.specs.Writes.{sets, stored}
+use Rattle.writes.specs.Writes.{sets}
 
 -- Which places of the array a write sets: those of the 256 bytes, but never the password's two.
 unfoldable pub touches : Write → ℕ → ℕ → Bool
 touches write count place = if secret place then false else sets write count place
-
--- The array with one value written in n places, from a place on.
-unfoldable pub filled : ℕ → ℕ → ℕ → List ℕ → List ℕ
-filled first zero value all = all
-filled first (suc n) value all = stored (first + n) value (filled first n value all)
 
 -- The percents that a write holds are bytes.
 abbrev pub PercentByte : Write → Type 0

@@ -1,10 +1,9 @@
 // All that may be written to the registers, and the one function that writes it.
 #![tactic(auto)]
 
-ghost use Rattle.std.specs.Prelude.{◌≡◌, ◌+◌, ◌-◌, ◌<◌, ◌≤◌, length};
+ghost use Rattle.std.specs.Prelude.{◌≡◌, ◌<◌, length};
 ghost use Rattle.vault.specs.Job.{became, changed};
 ghost use Rattle.writes.specs.Writes.{applied, byte_of, change_of, one_more, factory_by, stored, values_by};
-ghost use Rattle.writes.specs.Code.{filled};
 
 use places::{Counter, DIMMING, FIRST, LIGHT, NETWORK, SAVED, SECOND, SIZE, UNIT, level_place};
 use units::Percent;
@@ -36,6 +35,7 @@ const TABLE: usize = 0x7A;
 const ACTIONS: [u8; 8] = [100, 255, 100, 0, 0, 255, 0, 0];
 
 // The array's part of a write; the password's two places are left alone.
+#[tactic(auto, using(places::proofs::Laws::counter_within), unfolding(crate::specs::Writes::applied))]
 pub fn apply(write: Write, values: &[u8], all: &mut [u8; 256])
     ensures { all.new ≡ applied write values.now all.old }
 {
@@ -43,8 +43,7 @@ pub fn apply(write: Write, values: &[u8], all: &mut [u8; 256])
         Write::Nothing => {}
         Write::Count(counter) => {
             let place = counter.place();
-            let old = all[place];
-            store(place, more(old), all);
+            store(place, more(all[place]), all);
         }
         Write::Save(percent) => store(SAVED, percent.0, all),
         Write::Preset { component, percent } => store(level_place(component), percent.0, all),
@@ -54,14 +53,12 @@ pub fn apply(write: Write, values: &[u8], all: &mut [u8; 256])
 }
 
 // What becomes of the password when the same is written.
+#[tactic(auto, unfolding(crate::specs::Writes::change_of, crate::specs::Writes::change_at, crate::specs::Writes::factory_at, vault::specs::Job::changed, vault::specs::Job::became))]
 pub fn password(write: Write, values: &[u8], old: Password) -> Password
     ensures { result ≡ changed (change_of write values.now) old }
 {
     match write {
-        Write::Nothing => old,
-        Write::Count(_) => old,
-        Write::Save(_) => old,
-        Write::Preset { .. } => old,
+        Write::Nothing | Write::Count(_) | Write::Save(_) | Write::Preset { .. } => old,
         Write::Factory => PASSWORD,
         Write::Values { first } => {
             let start = first as usize;
@@ -74,26 +71,19 @@ pub fn password(write: Write, values: &[u8], old: Password) -> Password
 }
 
 // A counter does not wrap.
+#[tactic(auto, unfolding(crate::specs::Writes::one_more))]
 fn more(value: u8) -> u8
     ensures { result ≡ one_more value }
 {
-    if value < 255 {
-        return value + 1;
-    }
-    value
+    value.saturating_add(1)
 }
 
 // The password's bytes are not held here, and past 0xFF there is nothing to write to.
+#[tactic(auto, unfolding(crate::specs::Writes::stored))]
 fn store(place: usize, value: u8, all: &mut [u8; 256])
     ensures { all.new ≡ stored place value all.old }
 {
-    if place == FIRST {
-        return;
-    }
-    if place == SECOND {
-        return;
-    }
-    if place < SIZE {
+    if place != FIRST && place != SECOND && place < SIZE {
         all[place] = value;
     }
 }
@@ -102,78 +92,46 @@ fn store(place: usize, value: u8, all: &mut [u8; 256])
 fn store_factory(all: &mut [u8; 256])
     ensures { all.new ≡ factory_by 256 all.old }
 {
-    sized(all);
-    fill(FILLED, LEFT, 255, all);
+    all[FILLED..LEFT].fill(255);
     all[DIMMING] = 0x13;
     all[LIGHT] = 0x09;
-    copy(TABLE, &ACTIONS, all);
-    fill(CLEARED, FILLED, 0, all);
+    all[TABLE..TABLE + ACTIONS.len()].copy_from_slice(&ACTIONS);
+    all[CLEARED..FILLED].fill(0);
     all[UNIT] = 1;
     all[NETWORK] = 255;
 }
 
-// A stretch of places with one value.
-fn fill(first: usize, end: usize, value: u8, all: &mut [u8; 256])
-    requires { (3 < first) × ((first ≤ end) × (end ≤ 256)) }
-    ensures { all.new ≡ filled first (end - first) value all.old }
-{
-    let mut place = first;
-    while place < end {
-        all[place] = value;
-        place += 1;
-    }
-}
-
-// For the proofs alone: lent registers are 256 bytes.
-fn sized(all: &[u8; 256])
-    ensures { length all.now ≡ 256 }
-{
-    let some: &[u8] = all;
-}
-
 // Past the password and within the registers the values are copied; elsewhere each place is looked at.
+#[tactic(auto, using(crate::proofs::Writing::values_laid))]
 fn store_values(first: usize, values: &[u8], all: &mut [u8; 256])
     requires { first < 256 }
     ensures { all.new ≡ values_by (length values.now) first values.now all.old }
 {
-    if SECOND < first && first + values.len() <= SIZE {
-        return copy(first, values, all);
-    }
-    store_each(first, values, all)
-}
-
-fn copy(first: usize, values: &[u8], all: &mut [u8; 256])
-    requires { (3 < first) × (first + length values.now ≤ 256) }
-    ensures { all.new ≡ values_by (length values.now) first values.now all.old }
-{
-    let mut i = 0;
-    while i < values.len() {
-        all[first + i] = values[i];
-        i += 1;
+    let end = first + values.len();
+    if SECOND < first && end <= SIZE {
+        all[first..end].copy_from_slice(values);
+    } else {
+        store_each(first, values, all);
     }
 }
 
+#[tactic(auto, using(crate::proofs::Writing::values_more), unfolding(crate::specs::Writes::values_by))]
 fn store_each(first: usize, values: &[u8], all: &mut [u8; 256])
     requires { first < 256 }
     ensures { all.new ≡ values_by (length values.now) first values.now all.old }
 {
-    let mut i = 0;
-    while i < values.len() {
-        store(first + i, values[i], all);
-        i += 1;
+    for (i, value) in values.iter().enumerate() {
+        store(first + i, *value, all);
     }
 }
 
 // The password's byte at a place, after values from `first` on.
+#[tactic(auto, unfolding(crate::specs::Writes::byte_of, vault::specs::Job::became))]
 fn byte(place: usize, first: usize, values: &[u8], old: u8) -> u8
     ensures { result ≡ became (byte_of place first values.now) old }
 {
     if place < first {
         return old;
     }
-    let at = place - first;
-    if at < values.len() {
-        return values[at];
-    }
-    old
+    values.get(place - first).copied().unwrap_or(old)
 }

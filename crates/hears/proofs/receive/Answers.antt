@@ -1,7 +1,7 @@
 use native.Mathlib.Omega.{arith}
 use Rattle.switch.specs.Switch.{receive}
 use Rattle.switch.proofs.Laws.{short_responds}
-use Rattle.hears.proofs.Receiving.{garbled_responds, granted_responds, stopped_responds}
+use Rattle.hears.proofs.Receiving.{garbled_responds, granted_responds, denied_responds}
 use Rattle.hears.proofs.receive.Goals as goal
 
 pub returns-then-out-lt-ROOM : goal.returns-then-out-lt-ROOM
@@ -11,15 +11,16 @@ returns-then-out-lt-ROOM c = λ l.
 pub returns-in_default : goal.returns-in_default
 returns-in_default c = λ l.
     garbled_responds _ _ _ l _ _ (omega (arith, c.if-out-lt-ROOM.false)) _ c.read-frame.ensures c.number.result _ _ c.none-in_default.result c.shown-in_default.result
-    c.sized.ensures c.in_default.not-Read c.number.ensures c.signal.ensures c.none-in_default.ensures c.shown-in_default.ensures
+    c.sized.ensures c.in_default.not-Ok c.number.ensures c.signal.ensures c.none-in_default.ensures c.shown-in_default.ensures
 
-pub returns-in-Stop : goal.returns-in-Stop
-returns-in-Stop c = λ l.
-    stopped_responds _ _ _ l _ _ (omega (arith, c.if-out-lt-ROOM.false)) _ c.read-frame.ensures _ _ _ _ c.in-Read.is c.message-message.ensures c.mode_in.ensures c.judge-order.ensures
-    _ _ _ c.none-in-Stop.result c.shown-in-Stop.result c.password_of.ensures c.verdict_of-verdict.ensures c.in-Stop.is c.none-in-Stop.ensures c.shown-in-Stop.ensures
+pub returns-in-Err : goal.returns-in-Err
+returns-in-Err c = λ l.
+    denied_responds _ _ _ l _ _ (omega (arith, c.if-out-lt-ROOM.false)) _ c.read-frame.ensures _ _ _ _ c.in-Ok.is c.message-message.ensures c.mode_in.ensures c.judge-judged.ensures
+    _ _ _ c.number-in-Err.result c.none-in-Err.result c.shown-in-Err.result c.password_of.ensures c.verdict_of.ensures c.in-Err.is c.number-in-Err.ensures
+    c.none-in-Err.ensures c.shown-in-Err.ensures
 
 pub returns : goal.returns
 returns c = λ l.
-    granted_responds _ _ _ l _ _ (omega (arith, c.if-out-lt-ROOM.false)) _ c.read-frame.ensures _ _ _ _ c.in-Read.is c.message-message.ensures c.mode_in.ensures c.judge-order.ensures
-    _ _ _ c.obey-length.result _ _ _ _ _ _ _ _ c.shown-2.result c.password_of.ensures c.verdict_of-verdict.ensures c.in_default-verdict.is c.values.ensures c.sized.ensures
+    granted_responds _ _ _ l _ _ (omega (arith, c.if-out-lt-ROOM.false)) _ c.read-frame.ensures _ _ _ _ c.in-Ok.is c.message-message.ensures c.mode_in.ensures c.judge-judged.ensures
+    _ _ _ _ c.obey-length.result _ _ _ _ _ _ _ _ c.shown-2.result c.password_of.ensures c.verdict_of.ensures c.in-Ok-verdict_of.is c.values.ensures c.sized.ensures
     c.obey-length.ensures c.hue_of.ensures c.signal-2.ensures c.one.ensures c.shown-2.ensures

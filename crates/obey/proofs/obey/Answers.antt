@@ -1,8 +1,5 @@
-use Rattle.obey.proofs.Laws.{refuses, opens, reads, works}
+use Rattle.obey.proofs.Laws.{opens, reads, works}
 use Rattle.obey.proofs.obey.Goals as goal
-
-pub returns-in-Refused : goal.returns-in-Refused
-returns-in-Refused c = refuses _ _ _ _ _ _ _ _ c.in-Refused.is
 
 pub returns-in-Guess : goal.returns-in-Guess
 returns-in-Guess c =

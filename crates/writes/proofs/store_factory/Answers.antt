@@ -1,8 +1,7 @@
-use Rattle.writes.specs.Writes.{stored}
+use native.Mathlib.Omega.{arith}
 use Rattle.writes.proofs.Factory.{stretches}
 use Rattle.writes.proofs.store_factory.Goals as goal
 
 pub returns : goal.returns
-unfolding stored
 returns c =
-    rw (c.fill-2.ensures, c.copy.ensures, c.fill.ensures) (stretches _ c.sized.ensures)
+    stretches _ _ _ _ (omega arith) (c.fill.ensures.after (λ y e. e)) c.copy_from_slice.ensures.after (c.fill-2.ensures.after (λ y e. e))
