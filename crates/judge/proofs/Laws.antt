@@ -243,6 +243,11 @@ row_number n all mode h m (not_listed p u) = refl
 row_number n all mode h m (wrong_arguments p u) = refl
 row_number n all mode h m (not_permitted p u) = refl
 
+-- A row that holds is answered by its refusal.
+pub refused_by : (n : ℕ) (all : List ℕ) (mode : Mode) (h : Header) (m : List ℕ)
+    → Refusal all mode h m n → (d : Denied) × ((judged all mode h m ≡ Err d) × (number_of_denied d ≡ n))
+refused_by n all mode h m g = (denied_at n, (refused all mode h n m g, row_number n all mode h m g))
+
 -- Each number is given exactly when its row of the table says.
 pub number_exactly : NumberExactly
 number_exactly n all mode h m z = (

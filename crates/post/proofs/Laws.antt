@@ -21,12 +21,12 @@ use Rattle.post.specs.declared.Reply.{Reply}
 use Rattle.post.specs.declared.Reply.TheVariants.{Silence, Status, Registers}
 use Rattle.post.specs.Post.{headed, enveloped, bytes_of, values_from, reply_message, replied, placed_one}
 use Rattle.model.specs.Model.{place}
-use Rattle.post.specs.Code.{note_header, sent_of, front, laid_length, Laid, LaysOneWay}
+use Rattle.post.specs.Code.{Bare, note_header, sent_of, front, laid_length, Laid, LaysOneWay}
 use Rattle.registers.proofs.Laws.{range_length}
 
 -- The header of every packet sent is in the writer's ranges.
-pub own_ranges : (link : Bool) (network destination source size : ℕ) → 1 ≤ size → size ≤ 18 → Ranges (header link network destination source) size
-own_ranges link network destination source size least most =
+pub own_ranges : (h : Header) (size : ℕ) → Bare h → 1 ≤ size → size ≤ 18 → Ranges h size
+own_ranges h size own least most =
     record {
       repeat = omega arith;
       request = omega arith;
@@ -35,6 +35,9 @@ own_ranges link network destination source size least most =
       least = least;
       most = most;
     }
+
+pub bare : (link : Bool) (network destination source : ℕ) → Bare (header link network destination source)
+bare link network destination source = record { repeat = refl; request = refl; count = refl; sequence = refl }
 
 -- A list without elements.
 pub no_bytes : (l : List ℕ) → length l ≡ 0 → l ≡ []

@@ -19,7 +19,7 @@ use Rattle.post.specs.declared.Reply.TheVariants.{Silence, Status, Registers}
 use Rattle.post.specs.Post.{enveloped, bytes_of, values_from, reply_message, replied}
 use Rattle.post.specs.Promises.{Each, Carries, RepliedReads}
 use Rattle.registers.proofs.Laws.{apart_other, range_apart}
-use Rattle.post.proofs.Laws.{own_ranges, reply_most}
+use Rattle.post.proofs.Laws.{bare, own_ranges, reply_most}
 use Rattle.post.specs.Code.{CaseA}
 
 -- What holds of each packet of a list, and follows from it.
@@ -34,7 +34,7 @@ unfolding enveloped
 carried link network destination source [] most = tt
 carried link network destination source (b ∷ bs) most =
     let h = header link network destination source in
-    let back = reads_back h (b ∷ bs) (own_ranges link network destination source _ (omega arith) most) in
+    let back = reads_back h (b ∷ bs) (own_ranges h _ (bare link network destination source) (omega arith) most) in
     let long = packed_length h (b ∷ bs) in
     (record { least = omega arith; most = omega arith; header = back.0; bytes = back.1 }, tt)
 

@@ -24,6 +24,13 @@ no_note = note 0 0 0 Empty
 abbrev pub note_header : Note → Header
 note_header n = header true n.network n.destination n.source
 
+-- A header as it is of every packet that is sent: repeat, request, count and sequence bits are 0.
+pub record Bare (h : Header) : Type 0 where
+  pub repeat : h.repeat ≡ 0
+  pub request : h.request ≡ 0
+  pub count : h.count ≡ 0
+  pub sequence : h.sequence ≡ 0
+
 -- The packets of a note, one or none.
 unfoldable pub sent_of : Note → List (List ℕ)
 sent_of n = enveloped (note_header n) (bytes_of n.message)

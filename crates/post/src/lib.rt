@@ -1,10 +1,10 @@
 // What a switch sends: a link packet, noted while its event goes on and laid at its end, and a reply to a packet.
 #![tactic(auto)]
 
-ghost use Rattle.std.specs.Prelude.{◌≡◌, ◌≤◌, min, false, length};
+ghost use Rattle.std.specs.Prelude.{◌≡◌, ◌≤◌, length};
 ghost use Rattle.packet.specs.Layout.{header};
-ghost use Rattle.post.specs.Post.{replied, values_from, headed, enveloped};
-ghost use Rattle.post.specs.Code.{no_note, note_header, sent_of, Laid};
+ghost use Rattle.post.specs.Post.{replied, enveloped};
+ghost use Rattle.post.specs.Code.{no_note, sent_of, Bare, Laid};
 
 use packet::Header;
 use units::Percent;
@@ -63,36 +63,13 @@ impl Note {
 pub fn lay(note: Note, out: &mut [u8]) -> u8
     ensures { Laid (sent_of note) out.old result out.new }
 {
-    let message = note.message;
-    match message {
+    let header = bare(true, note.network, note.destination, note.source);
+    match note.message {
         Message::Empty => 0,
-        Message::One(command) => {
-            let bytes = [command];
-            link(note, &bytes, out)
-        }
-        Message::Two(command, first) => {
-            let bytes = [command, first];
-            link(note, &bytes, out)
-        }
-        Message::Three(command, first, second) => {
-            let bytes = [command, first, second];
-            link(note, &bytes, out)
-        }
+        Message::One(command) => put(header, &[command], out),
+        Message::Two(command, first) => put(header, &[command, first], out),
+        Message::Three(command, first, second) => put(header, &[command, first, second], out),
     }
-}
-
-fn link(note: Note, message: &[u8], out: &mut [u8]) -> u8
-    requires { length message.now ≤ 18 }
-    ensures { Laid (enveloped (note_header note) message.now) out.old result out.new }
-{
-    put(
-        true,
-        note.network,
-        note.destination,
-        note.source,
-        message,
-        out,
-    )
 }
 
 // Lays a reply to the one who asked likewise. `seen` holds the password only where the caller may show it.
@@ -107,56 +84,26 @@ pub fn send(
 ) -> u8
     ensures { Laid (replied all.now seen to reply percent) out.old result out.new }
 {
+    let header = bare(false, places::network(all), to, places::unit(all));
     match reply {
         Reply::Silence => 0,
-        Reply::Status => {
-            let bytes = [STATUS, percent.0];
-            direct(all, to, &bytes, out)
+        Reply::Status => put(header, &[STATUS, percent.0], out),
+        Reply::Registers { first, count } => {
+            let mut bytes = [0; 18];
+            bytes[0] = VALUES;
+            bytes[1] = first;
+            let end = 2 + MOST.min(count) as usize;
+            registers::range(all, seen, first, &mut bytes[2..end]);
+            put(header, &bytes[..end], out)
         }
-        Reply::Registers { first, count } => send_values(all, seen, to, first, count, out),
     }
 }
 
-fn send_values(
-    all: &[u8; 256],
-    seen: Option<Password>,
-    to: u8,
-    first: u8,
-    count: u8,
-    out: &mut [u8],
-) -> u8
-    ensures { Laid (enveloped (headed all.now false to) (values_from all.now seen first count)) out.old result out.new }
+// The header of every packet that is sent: repeat, request, count and sequence bits are 0.
+fn bare(link: bool, network: u8, destination: u8, source: u8) -> Header
+    ensures { result ≡ header link network destination source }
 {
-    let mut bytes = [0u8; 18];
-    bytes[0] = VALUES;
-    bytes[1] = first;
-    let end = 2 + held(count);
-    registers::range(all, seen, first, &mut bytes[2..end]);
-    direct(all, to, &bytes[..end], out)
-}
-
-// How many values a reply holds.
-fn held(count: u8) -> usize
-    ensures { result ≡ min 16 count }
-{
-    MOST.min(count) as usize
-}
-
-fn direct(all: &[u8; 256], to: u8, message: &[u8], out: &mut [u8]) -> u8
-    requires { length message.now ≤ 18 }
-    ensures { Laid (enveloped (headed all.now false to) message.now) out.old result out.new }
-{
-    let network = places::network(all);
-    let unit = places::unit(all);
-    put(false, network, to, unit, message, out)
-}
-
-// The one way out: a packet with repeat, request, count and sequence bits 0.
-fn put(link: bool, network: u8, destination: u8, source: u8, message: &[u8], out: &mut [u8]) -> u8
-    requires { length message.now ≤ 18 }
-    ensures { Laid (enveloped (header link network destination source) message.now) out.old result out.new }
-{
-    let header = Header {
+    Header {
         link,
         repeat: 0,
         request: 0,
@@ -165,6 +112,14 @@ fn put(link: bool, network: u8, destination: u8, source: u8, message: &[u8], out
         network,
         destination,
         source,
-    };
+    }
+}
+
+// The one way out.
+fn put(header: Header, message: &[u8], out: &mut [u8]) -> u8
+    requires own { Bare header }
+    requires few { length message.now ≤ 18 }
+    ensures { Laid (enveloped header message.now) out.old result out.new }
+{
     writer::write(header, message, out).unwrap_or(0)
 }

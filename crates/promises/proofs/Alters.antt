@@ -1,5 +1,5 @@
 -- What can alter a register, shown of every event.
-use Rattle.std.specs.Prelude.{Result, Ok, Err, if◌then◌else◌}
+use Rattle.std.specs.Prelude.{Result, Ok, Err, if◌then◌else◌, None}
 use mathlib.Core.Bool.{Bool, true, false, ◌&&◌, and-eq-true_iff, true≢false}
 use mathlib.Core.List.{List, [], ◌∷◌, ◌++◌, map}
 use mathlib.Core.Logic.{◌⊎◌, inl, inr}
@@ -38,9 +38,9 @@ use Rattle.writes.specs.declared.Write.{Write}
 use Rattle.writes.specs.declared.Write.TheVariants as write
 use Rattle.places.proofs.Laws.{by_secret}
 use Rattle.writes.proofs.Writing.{image_after, write_length}
-use Rattle.registers.specs.declared.Seen.TheVariants as seen
-use Rattle.judge.specs.Judge.{judged}
+use Rattle.judge.specs.Judge.{judged, number_of_denied}
 use Rattle.judge.specs.Promises.{Accepted}
+use Rattle.judge.specs.declared.Denied.{Denied}
 use Rattle.judge.specs.declared.Order.{Order}
 use Rattle.judge.specs.declared.Order.TheVariants as order
 use Rattle.judge.specs.declared.Work.{Work}
@@ -227,7 +227,7 @@ module _ (s : Switch Plain) where
   obeyed_says w source values = ap (λ (x : Write). wrote x values (p.registers, s.password)) (work_writes_lem p.registers w p.core)
 
   -- Only Set Registers brings values; a work that writes nothing leaves all as it is.
-  work_says : (w : Work) (source : ℕ) (values : List ℕ) → Says s (by_order s (order.Work w) values) (settled s.password (job_of_work w source values p))
+  work_says : (w : Work) (source : ℕ) (values : List ℕ) → Says s (by_order s (Ok (order.Work w)) values) (settled s.password (job_of_work w source values p))
   unfolding by_order work_writes stored written applied change_of change_at changed became
   work_says work.Report source values = obeyed_says work.Report source values
   work_says work.Close source values = obeyed_says work.Close source values
@@ -236,14 +236,14 @@ module _ (s : Switch Plain) where
   work_says (work.Drive d) source values = obeyed_says (work.Drive d) source values
 
   abbrev opens : Outcome Plain Shown
-  opens = outcome_of (opened p.core) [] 0 reply.Silence p seen.Hidden
+  opens = outcome_of (opened p.core) [] 0 reply.Silence p None
 
   guess_says : (right : Bool) → Says s (if right then bare (write.Count Setups) ∷ [] else []) (answered (if right then opens else refused 14 p) s.password)
   unfolding outcome_of plain_after opened refused written change_of change_at changed became
   guess_says true = refl
   guess_says false = refl
 
-  open_says : (guess : Password) (values : List ℕ) → Says s (by_order s (order.Guess guess) values) (settled s.password (job_of_guess guess p))
+  open_says : (guess : Password) (values : List ℕ) → Says s (by_order s (Ok (order.Guess guess)) values) (settled s.password (job_of_guess guess p))
   unfolding by_order job_of_guess settled
   open_says guess values = guess_says (matches s.password guess)
 
@@ -251,12 +251,12 @@ module _ (s : Switch Plain) where
   unfolding job_of_read outcome_of plain_after unwritten applied written settled changed became
   get_says first count source = both (λ (j : SwitchJob). Says s [] (settled s.password j)) (in_setup p.core.mode) refl refl
 
-  order_says : (o : Order) (source : ℕ) (values : List ℕ) → Says s (by_order s o values) (settled s.password (job_of_order o source values p))
+  order_says : (o : Result Order Denied) (source : ℕ) (values : List ℕ) → Says s (by_order s o values) (settled s.password (job_of_order o source values p))
   unfolding by_order job_of_order
-  order_says (order.Refused n) source values = refused_says n
-  order_says (order.Guess guess) source values = open_says guess values
-  order_says (order.Read first count) source values = get_says first count source
-  order_says (order.Work w) source values = work_says w source values
+  order_says (Err d) source values = refused_says (number_of_denied d)
+  order_says (Ok (order.Guess guess)) source values = open_says guess values
+  order_says (Ok (order.Read first count)) source values = get_says first count source
+  order_says (Ok (order.Work w)) source values = work_says w source values
 
   frame_says : (f : Result Header Flaw) (message : List ℕ) → Says s (by_frame s f message) (settled s.password (job_of_frame f message p))
   unfolding by_frame job_of_frame
@@ -340,24 +340,24 @@ module _ (s : Switch Plain) where
     asking : (o : Order) → Accepted o plain_of.registers plain_of.core.mode h (message_of bytes) → Asks s bytes o
     asking o a = record { header = h; sound = packet.sound bytes h read; accepted = a }
 
-    order_causes : (o : Order) → judged plain_of.registers plain_of.core.mode h (message_of bytes) ≡ o → EachWrite (Cause s (receive bytes)) (by_order s o (drop 2 (message_of bytes)))
+    order_causes : (o : Result Order Denied) → judged plain_of.registers plain_of.core.mode h (message_of bytes) ≡ o → EachWrite (Cause s (receive bytes)) (by_order s o (drop 2 (message_of bytes)))
     unfolding by_order
-    order_causes (order.Refused n) e = tt
-    order_causes (order.Guess guess) e =
+    order_causes (Err d) e = tt
+    order_causes (Ok (order.Guess guess)) e =
         cases (EachWrite (Cause s (receive bytes))) (matches s.password guess)
         (λ m. (
           right_guess (receive bytes) (record {
-            start = record { bytes = bytes; guess = guess; received = refl; asks = asking (order.Guess guess) (asks (order.Guess guess) _ _ h _ e) };
+            start = record { bytes = bytes; guess = guess; received = refl; asks = asking (order.Guess guess) (asks (Ok (order.Guess guess)) _ _ h _ e) };
             right = matches_equal s.password guess m;
           }),
           tt,
         )) (λ _. tt)
-    order_causes (order.Read first count) e = tt
-    order_causes (order.Work work.Report) e = tt
-    order_causes (order.Work work.Close) e = tt
-    order_causes (order.Work (work.Set first)) e = (set bytes first (asking (order.Work (work.Set first)) (asks (order.Work (work.Set first)) _ _ h _ e)), tt)
-    order_causes (order.Work (work.Store i)) e = (preset-stored bytes i (asking (order.Work (work.Store i)) (asks (order.Work (work.Store i)) _ _ h _ e)), tt)
-    order_causes (order.Work (work.Drive d)) e = tt
+    order_causes (Ok (order.Read first count)) e = tt
+    order_causes (Ok (order.Work work.Report)) e = tt
+    order_causes (Ok (order.Work work.Close)) e = tt
+    order_causes (Ok (order.Work (work.Set first))) e = (set bytes first (asking (order.Work (work.Set first)) (asks (Ok (order.Work (work.Set first))) _ _ h _ e)), tt)
+    order_causes (Ok (order.Work (work.Store i))) e = (preset-stored bytes i (asking (order.Work (work.Store i)) (asks (Ok (order.Work (work.Store i))) _ _ h _ e)), tt)
+    order_causes (Ok (order.Work (work.Drive d))) e = tt
 
   frame_causes : (bytes : List ℕ) (f : Result Header Flaw) → read_of bytes ≡ f → EachWrite (Cause s (receive bytes)) (by_frame s f (message_of bytes))
   unfolding by_frame

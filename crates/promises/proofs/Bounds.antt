@@ -1,5 +1,5 @@
 -- The bounds, shown event by event and over every run.
-use Rattle.std.specs.Prelude.{Result, Ok, Err}
+use Rattle.std.specs.Prelude.{Result, Ok, Err, Option, Some, None}
 use mathlib.Core.Bool.{false}
 use mathlib.Core.List.{List, [], ◌∷◌, ◌++◌, map}
 use mathlib.Core.Path.{◌≡◌, refl, sym, ◌∙◌, subst}
@@ -27,11 +27,10 @@ use Rattle.lamp.proofs.Laws.{output_within}
 use Rattle.model.specs.Model.{paddle_of, room, paddle_count, contact_count}
 use Rattle.places.specs.Places.{size}
 use Rattle.registers.specs.Registers.{Dead, apart}
-use Rattle.registers.specs.declared.Seen.{Seen}
-use Rattle.registers.specs.declared.Seen.TheVariants as seen
 use Rattle.registers.proofs.Laws.{apart_dead, apart_length}
 use Rattle.writes.proofs.Writing.{write_dead, write_length}
-use Rattle.judge.specs.Judge.{judged}
+use Rattle.judge.specs.Judge.{judged, number_of_denied}
+use Rattle.judge.specs.declared.Denied.{Denied}
 use Rattle.judge.specs.declared.Order.{Order}
 use Rattle.judge.specs.declared.Order.TheVariants as order
 use Rattle.judge.specs.declared.Work.{Work}
@@ -192,7 +191,7 @@ unfolding job_of_restart
 restarting_fine p k = good 0 [] (woken p.registers) (woken_sane p.registers k.registers k.dead) (omega arith) tt
 
 -- A packet's answer: at most one reply.
-answering_fine : (e : Effect) (values : List ℕ) (source : ℕ) (r : Reply) (p : Plain) (s : Seen) → Sane p → Ranged e.core
+answering_fine : (e : Effect) (values : List ℕ) (source : ℕ) (r : Reply) (p : Plain) (s : Option Password) → Sane p → Ranged e.core
     → Good (outcome_of e values source r p s).shown (outcome_of e values source r p s).next
 unfolding outcome_of plain_after signalled replied
 answering_fine e values source r p s k w =
@@ -212,25 +211,25 @@ answering_fine e values source r p s k w =
 obeying_fine : (w : Work) (source : ℕ) (values : List ℕ) (p : Plain) → Sane p → Fine (job_of_work w source values p)
 unfolding job_of_work
 obeying_fine w source values p k =
-    answering_fine (performed p.registers w p.core) values source (reply_to w) p seen.Hidden k (work_ranged p.registers w p.core k.dimmer)
+    answering_fine (performed p.registers w p.core) values source (reply_to w) p None k (work_ranged p.registers w p.core k.dimmer)
 
 opening_fine : (guess : Password) (p : Plain) → Sane p → Fine (job_of_guess guess p)
 unfolding job_of_guess opened entering
-opening_fine guess p k = (answering_fine (opened p.core) [] 0 reply.Silence p seen.Hidden k k.dimmer, refused_fine 14 p k)
+opening_fine guess p k = (answering_fine (opened p.core) [] 0 reply.Silence p None k k.dimmer, refused_fine 14 p k)
 
 getting_fine : (first count source : ℕ) (p : Plain) → Sane p → Fine (job_of_read first count source p)
 unfolding job_of_read outcome_of unwritten
 getting_fine first count source p k =
     let r = reply.Registers first count in
-    both Fine (in_setup p.core.mode) (λ w. answering_fine (unwritten p.core) [] source r p (seen.Shown w) k k.dimmer)
-    (answering_fine (unwritten p.core) [] source r p seen.Hidden k k.dimmer)
+    both Fine (in_setup p.core.mode) (λ w. answering_fine (unwritten p.core) [] source r p (Some w) k k.dimmer)
+    (answering_fine (unwritten p.core) [] source r p None k k.dimmer)
 
-ordering_fine : (o : Order) (source : ℕ) (values : List ℕ) (p : Plain) → Sane p → Fine (job_of_order o source values p)
+ordering_fine : (o : Result Order Denied) (source : ℕ) (values : List ℕ) (p : Plain) → Sane p → Fine (job_of_order o source values p)
 unfolding job_of_order
-ordering_fine (order.Refused n) source values p k = refused_fine n p k
-ordering_fine (order.Guess guess) source values p k = opening_fine guess p k
-ordering_fine (order.Read first count) source values p k = getting_fine first count source p k
-ordering_fine (order.Work w) source values p k = obeying_fine w source values p k
+ordering_fine (Err d) source values p k = refused_fine (number_of_denied d) p k
+ordering_fine (Ok (order.Guess guess)) source values p k = opening_fine guess p k
+ordering_fine (Ok (order.Read first count)) source values p k = getting_fine first count source p k
+ordering_fine (Ok (order.Work w)) source values p k = obeying_fine w source values p k
 
 reading_fine : (f : Result Header Flaw) (m : List ℕ) (p : Plain) → Sane p → Fine (job_of_frame f m p)
 unfolding job_of_frame

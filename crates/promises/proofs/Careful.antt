@@ -25,6 +25,7 @@ use Rattle.writes.specs.declared.Write.{Write}
 use Rattle.writes.specs.declared.Write.TheVariants as write
 use Rattle.writes.proofs.Writing.{password_whole}
 use Rattle.judge.specs.Judge.{judged}
+use Rattle.judge.specs.declared.Denied.{Denied}
 use Rattle.judge.specs.declared.Order.{Order}
 use Rattle.judge.specs.declared.Order.TheVariants as order
 use Rattle.judge.specs.declared.Work.{Work}
@@ -107,10 +108,10 @@ unfolding known
 known_fine p contact asked fine = both (Fine p) (leb contact_count contact) (λ _. tt) fine
 
 -- Set Registers is only accepted in Setup.
-set_in_setup : (p : Plain) (h : Header) (m : List ℕ) (first : ℕ) → judged p.registers p.core.mode h m ≡ order.Work (work.Set first) → in_setup p.core.mode ≡ false → ⊥
+set_in_setup : (p : Plain) (h : Header) (m : List ℕ) (first : ℕ) → judged p.registers p.core.mode h m ≡ Ok (order.Work (work.Set first)) → in_setup p.core.mode ≡ false → ⊥
 unfolding in_setup
 set_in_setup p h m first e out =
-    true≢false (sym (ap in_setup (asks (order.Work (work.Set first)) p.registers p.core.mode h m e).asked.when) ∙ out)
+    true≢false (sym (ap in_setup (asks (Ok (order.Work (work.Set first))) p.registers p.core.mode h m e).asked.when) ∙ out)
 
 obeying_fine : (p : Plain) (w : Work) (source : ℕ) (values : List ℕ) → Unset (work_writes w p.core.dimmer.level) → Fine p (job_of_work w source values p)
 unfolding job_of_work
@@ -131,7 +132,7 @@ setting_fine : (p : Plain) (first source : ℕ) (values : List ℕ) → (in_setu
 unfolding job_of_work
 setting_fine p first source values only = λ out. absurd (only out)
 
-working_fine : (p : Plain) (h : Header) (m : List ℕ) (w : Work) (source : ℕ) (values : List ℕ) → judged p.registers p.core.mode h m ≡ order.Work w → Fine p (job_of_work w source values p)
+working_fine : (p : Plain) (h : Header) (m : List ℕ) (w : Work) (source : ℕ) (values : List ℕ) → judged p.registers p.core.mode h m ≡ Ok (order.Work w) → Fine p (job_of_work w source values p)
 unfolding work_writes stored
 working_fine p h m work.Report source values e = obeying_fine p work.Report source values unset_nothing
 working_fine p h m work.Close source values e = obeying_fine p work.Close source values unset_nothing
@@ -139,12 +140,12 @@ working_fine p h m (work.Set first) source values e = setting_fine p first sourc
 working_fine p h m (work.Store i) source values e = obeying_fine p (work.Store i) source values (λ first e. let z : ◌≡◌ {A = ℕ} 0 1 = cc in omega arith)
 working_fine p h m (work.Drive d) source values e = obeying_fine p (work.Drive d) source values unset_nothing
 
-ordering_fine : (p : Plain) (h : Header) (m : List ℕ) (o : Order) (source : ℕ) (values : List ℕ) → judged p.registers p.core.mode h m ≡ o → Fine p (job_of_order o source values p)
+ordering_fine : (p : Plain) (h : Header) (m : List ℕ) (o : Result Order Denied) (source : ℕ) (values : List ℕ) → judged p.registers p.core.mode h m ≡ o → Fine p (job_of_order o source values p)
 unfolding job_of_order
-ordering_fine p h m (order.Refused n) source values e = λ _. tt
-ordering_fine p h m (order.Guess guess) source values e = opening_fine p guess
-ordering_fine p h m (order.Read first count) source values e = getting_fine p first count source
-ordering_fine p h m (order.Work w) source values e = working_fine p h m w source values e
+ordering_fine p h m (Err d) source values e = λ _. tt
+ordering_fine p h m (Ok (order.Guess guess)) source values e = opening_fine p guess
+ordering_fine p h m (Ok (order.Read first count)) source values e = getting_fine p first count source
+ordering_fine p h m (Ok (order.Work w)) source values e = working_fine p h m w source values e
 
 reading_fine : (p : Plain) (f : Result Header Flaw) (m : List ℕ) → Fine p (job_of_frame f m p)
 unfolding job_of_frame

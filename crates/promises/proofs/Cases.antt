@@ -1,5 +1,5 @@
 -- The table of cases (a) to (j), shown.
-use Rattle.std.specs.Prelude.{Ok, Err}
+use Rattle.std.specs.Prelude.{Ok, Err, Some, None}
 use mathlib.Core.Bool.{true, false, ◌||◌}
 use mathlib.Core.List.{List, [], ◌∷◌}
 use mathlib.Core.Logic.{inl}
@@ -37,8 +37,6 @@ use Rattle.model.specs.Model.{drives, kind_of, paddle_of, room, paddle_count, co
 use Rattle.places.specs.Places.{action_in, counter_place, digit_in, dimming_in, light_in, network_in, size}
 use Rattle.registers.specs.Registers.{apart, found, seek, valid}
 use Rattle.writes.specs.Writes.{applied, one_more, stored}
-use Rattle.registers.specs.declared.Found.TheVariants.{At}
-use Rattle.registers.specs.declared.Seen.TheVariants as seen
 use Rattle.judge.specs.Judge.{driving, judged}
 use Rattle.judge.specs.declared.Order.TheVariants as order
 use Rattle.judge.specs.declared.Work.TheVariants as work
@@ -82,26 +80,26 @@ reads = record { a = refl; a_message = refl; b = refl; b_message = refl; c = ref
 
 module _ (s : Switch Plain) (lent : ℕ) (enough : room ≤ lent) (bench : Bench s) where
   -- How they are judged.
-  judged_a : judged s.plain.registers s.plain.core.mode (header false 1 5 9) (message_of packet_a) ≡ (order.Work work.Report)
+  judged_a : judged s.plain.registers s.plain.core.mode (header false 1 5 9) (message_of packet_a) ≡ Ok (order.Work work.Report)
   judged_a =
-      judge.only _ _ (header false 1 5 9) (order.Work work.Report) (message_of packet_a)
+      judge.only _ _ (header false 1 5 9) (Ok (order.Work work.Report)) (message_of packet_a)
       (record {
         reached = (λ u. u.1 (sym bench.network), λ u. u.1 (sym bench.unit));
         asked = judge.terms ((refl, (sym bench.unit, λ z. omega arith)), λ z. omega arith) tt reads.a_message;
       })
 
-  judged_b : (i : ℕ) → found s.plain.registers 3 ≡ At i
-      → judged s.plain.registers s.plain.core.mode (header true 1 3 9) (message_of packet_b) ≡ driving (drive.Goto 50 0)
+  judged_b : (i : ℕ) → found s.plain.registers 3 ≡ Some i
+      → judged s.plain.registers s.plain.core.mode (header true 1 3 9) (message_of packet_b) ≡ Ok (driving (drive.Goto 50 0))
   judged_b i there =
-      judge.only _ _ (header true 1 3 9) (driving (drive.Goto 50 0)) (message_of packet_b)
+      judge.only _ _ (header true 1 3 9) (Ok (driving (drive.Goto 50 0))) (message_of packet_b)
       (record {
         reached = (λ u. u.1 (sym bench.network), λ u. let z : ◌≡◌ {A = ℕ} 0 1 = cc in omega arith);
         asked = judge.terms tt tt (inl (inl reads.b_message));
       })
 
-  judged_c : judged s.plain.registers s.plain.core.mode (header false 1 5 9) (message_of packet_c) ≡ order.Guess (password 0x12 0x34)
+  judged_c : judged s.plain.registers s.plain.core.mode (header false 1 5 9) (message_of packet_c) ≡ Ok (order.Guess (password 0x12 0x34))
   judged_c =
-      judge.only _ _ (header false 1 5 9) (order.Guess (password 0x12 0x34)) (message_of packet_c)
+      judge.only _ _ (header false 1 5 9) (Ok (order.Guess (password 0x12 0x34))) (message_of packet_c)
       (record {
         reached = (λ u. u.1 (sym bench.network), λ u. u.1 (sym bench.unit));
         asked = judge.terms (refl, (sym bench.unit, λ z. omega arith)) bench.mode reads.c_message;
@@ -109,7 +107,7 @@ module _ (s : Switch Plain) (lent : ℕ) (enough : room ≤ lent) (bench : Bench
 
   job_a : job s.plain (event lent (receive packet_a)) ≡ job_of_work work.Report 9 (drop 2 (message_of packet_a)) s.plain
   unfolding job_of_order
-  job_a = receive_job s.plain lent packet_a (header false 1 5 9) (order.Work work.Report) enough reads.a judged_a
+  job_a = receive_job s.plain lent packet_a (header false 1 5 9) (Ok (order.Work work.Report)) enough reads.a judged_a
 
   a_number : number_at s (event lent (receive packet_a)) ≡ 0
   unfolding Product.response_of job_of_work outcome_of answer_of answer_with settled
@@ -117,14 +115,14 @@ module _ (s : Switch Plain) (lent : ℕ) (enough : room ≤ lent) (bench : Bench
 
   a_sent : (respond s (event lent (receive packet_a))).shown.sent ≡ reply_a ∷ []
   unfolding Product.response_of job_of_work outcome_of plain_after signalled performed reply_to unwritten applied settled percent_of
-  a_sent = ap (λ (j : SwitchJob). (settled s.password j).shown.sent) job_a ∙ rw bench.level (case_a s.plain.registers seen.Hidden bench.network bench.unit)
+  a_sent = ap (λ (j : SwitchJob). (settled s.password j).shown.sent) job_a ∙ rw bench.level (case_a s.plain.registers None bench.network bench.unit)
 
-  job_b : (i : ℕ) → found s.plain.registers 3 ≡ At i
+  job_b : (i : ℕ) → found s.plain.registers 3 ≡ Some i
       → job s.plain (event lent (receive packet_b)) ≡ job_of_work (work.Drive (drive.Goto 50 0)) 9 (drop 2 (message_of packet_b)) s.plain
   unfolding job_of_order
-  job_b i there = receive_job s.plain lent packet_b (header true 1 3 9) (driving (drive.Goto 50 0)) enough reads.b (judged_b i there)
+  job_b i there = receive_job s.plain lent packet_b (header true 1 3 9) (Ok (driving (drive.Goto 50 0))) enough reads.b (judged_b i there)
 
-  b_number : (i : ℕ) → found s.plain.registers 3 ≡ At i → number_at s (event lent (receive packet_b)) ≡ 0
+  b_number : (i : ℕ) → found s.plain.registers 3 ≡ Some i → number_at s (event lent (receive packet_b)) ≡ 0
   unfolding Product.response_of job_of_work outcome_of answer_of answer_with settled
   b_number i there = ap (λ (j : SwitchJob). (settled s.password j).shown.answer.number) (job_b i there)
 
@@ -136,23 +134,23 @@ module _ (s : Switch Plain) (lent : ℕ) (enough : room ≤ lent) (bench : Bench
   unfolding set_to allowed wanted rate_of heading_to step_of ticks_per_step
   b_rest = rw bench.capable
 
-  b_level : (i : ℕ) → found s.plain.registers 3 ≡ At i → (respond s (event lent (receive packet_b))).shown.answer.level ≡ step 100
+  b_level : (i : ℕ) → found s.plain.registers 3 ≡ Some i → (respond s (event lent (receive packet_b))).shown.answer.level ≡ step 100
   unfolding Product.response_of job_of_work outcome_of plain_after signalled performed driven set_by unwritten answer_of answer_with settled
   b_level i there = ap (λ (j : SwitchJob). (settled s.password j).shown.answer.level) (job_b i there) ∙ b_set
 
-  b_motion : (i : ℕ) → found s.plain.registers 3 ≡ At i → (respond s (event lent (receive packet_b))).next.plain.core.dimmer.motion ≡ Idle
+  b_motion : (i : ℕ) → found s.plain.registers 3 ≡ Some i → (respond s (event lent (receive packet_b))).next.plain.core.dimmer.motion ≡ Idle
   unfolding Product.response_of job_of_work outcome_of plain_after signalled performed driven set_by unwritten settled
   b_motion i there = ap (λ (j : SwitchJob). (settled s.password j).next.plain.core.dimmer.motion) (job_b i there) ∙ b_rest
 
   job_c : job s.plain (event lent (receive packet_c)) ≡ job_of_guess (password 0x12 0x34) s.plain
   unfolding job_of_order
-  job_c = receive_job s.plain lent packet_c (header false 1 5 9) (order.Guess (password 0x12 0x34)) enough reads.c judged_c
+  job_c = receive_job s.plain lent packet_c (header false 1 5 9) (Ok (order.Guess (password 0x12 0x34))) enough reads.c judged_c
 
   c_answer : s.password ≡ password 0x12 0x34
-      → respond s (event lent (receive packet_c)) ≡ answered (outcome_of (opened s.plain.core) [] 0 reply.Silence s.plain seen.Hidden) s.password
+      → respond s (event lent (receive packet_c)) ≡ answered (outcome_of (opened s.plain.core) [] 0 reply.Silence s.plain None) s.password
   unfolding job_of_guess
   c_answer same =
-      respond_right wall_switch s (event lent (receive packet_c)) (password 0x12 0x34) (outcome_of (opened s.plain.core) [] 0 reply.Silence s.plain seen.Hidden) (refused 14 s.plain)
+      respond_right wall_switch s (event lent (receive packet_c)) (password 0x12 0x34) (outcome_of (opened s.plain.core) [] 0 reply.Silence s.plain None) (refused 14 s.plain)
       job_c (equal_matches s.password (password 0x12 0x34) same)
 
   c_number : s.password ≡ password 0x12 0x34 → number_at s (event lent (receive packet_c)) ≡ 0
@@ -170,7 +168,7 @@ module _ (s : Switch Plain) (lent : ℕ) (enough : room ≤ lent) (bench : Bench
       (wrong_password (password 0x12 0x34) (record {
         header = header false 1 5 9;
         sound = packet.sound packet_c (header false 1 5 9) reads.c;
-        accepted = judge.asks (order.Guess (password 0x12 0x34)) _ _ (header false 1 5 9) (message_of packet_c) judged_c;
+        accepted = judge.asks (Ok (order.Guess (password 0x12 0x34))) _ _ (header false 1 5 9) (message_of packet_c) judged_c;
       }) other))
 
 e_number : (s : Switch Plain) (lent : ℕ) → room ≤ lent → number_at s (event lent (receive packet_e)) ≡ 7
@@ -212,8 +210,8 @@ module _ (s : Switch Plain) (lent : ℕ) (bytes : List ℕ) (enough : room ≤ l
   goto_job : job s.plain goto ≡ job_of_work (work.Drive (drive.Goto level rate)) accepts.header.source (drop 2 (message_of bytes)) s.plain
   unfolding job_of_order
   goto_job =
-      receive_job s.plain lent bytes accepts.header (driving (drive.Goto level rate)) enough (packet.only (Ok accepts.header) bytes accepts.sound)
-      (judge.only _ _ accepts.header (driving (drive.Goto level rate)) (message_of bytes) accepts.accepted)
+      receive_job s.plain lent bytes accepts.header (Ok (driving (drive.Goto level rate))) enough (packet.only (Ok accepts.header) bytes accepts.sound)
+      (judge.only _ _ accepts.header (Ok (driving (drive.Goto level rate))) (message_of bytes) accepts.accepted)
 
   goto_dimmer : dimmer_in (respond s goto).next ≡ set-dimmer
   unfolding Product.response_of job_of_work outcome_of plain_after signalled performed driven set_by unwritten settled
@@ -327,7 +325,7 @@ bench_darkens : (dimmer_by (Taps 1) 0 (started_from bench_image)).level ≡ off
 unfolding started_from woken apart started start_level bench_image zeros applied counter_place one_more stored options_of step_of fresh_dimmer acted acted_in acted_in_normal taps_in_normal unwritten by_action setting loaded drives set_by action_in set_to allowed wanted rate_of heading_to ticks_per_step paddle_of
 bench_darkens = refl
 
-bench_linked : found (started_from bench_image).plain.registers 3 ≡ At 0
+bench_linked : found (started_from bench_image).plain.registers 3 ≡ Some 0
 unfolding started_from woken apart bench_image zeros applied counter_place one_more stored found seek valid
 bench_linked = refl
 
@@ -339,7 +337,7 @@ dark_network : network_in (started_from dark_image).plain.registers ≡ 1
 unfolding started_from woken apart dark_image bench_image zeros applied counter_place one_more stored
 dark_network = refl
 
-dark_linked : found (started_from dark_image).plain.registers 3 ≡ At 0
+dark_linked : found (started_from dark_image).plain.registers 3 ≡ Some 0
 unfolding started_from woken apart dark_image bench_image zeros applied counter_place one_more stored found seek valid
 dark_linked = refl
 

@@ -1,5 +1,5 @@
 -- The numbers, shown: each is given exactly when its row says, and a refusal leaves nothing behind.
-use Rattle.std.specs.Prelude.{Result, Ok, Err, if◌then◌else◌}
+use Rattle.std.specs.Prelude.{Result, Ok, Err, if◌then◌else◌, None}
 use mathlib.Core.Bool.{Bool, true, false, true≢false}
 use mathlib.Core.List.{List, []}
 use mathlib.Core.Logic.{◌⊎◌, inl, inr, ⊎_elim}
@@ -29,10 +29,9 @@ use Rattle.paddle.proofs.Laws.{pressed_again, released_again}
 use Rattle.model.specs.Model.{kind_of, paddle_of, room, contact_count}
 use Rattle.places.specs.Places.{size}
 use Rattle.registers.specs.Registers.{number_taken}
-use Rattle.registers.specs.declared.Taken.TheVariants.{Refused}
 use Rattle.writes.specs.Writes.{applied, change_at, change_of}
-use Rattle.registers.specs.declared.Seen.TheVariants as seen
-use Rattle.judge.specs.Judge.{judged}
+use Rattle.judge.specs.Judge.{judged, number_of_denied}
+use Rattle.judge.specs.declared.Denied.{Denied}
 use Rattle.judge.specs.declared.Order.{Order}
 use Rattle.judge.specs.declared.Order.TheVariants as order
 use Rattle.judge.proofs.Laws as judge
@@ -64,7 +63,7 @@ mismatch w guess ne = go (matches w guess) refl
 wrong_guess : (w guess : Password) (p : Plain) → matches w guess ≡ false → number_in w (job_of_guess guess p) ≡ 14
 unfolding job_of_guess refused answer_of answer_with settled
 wrong_guess w guess p m =
-    ap (λ (b : Bool). (if b then outcome_of (opened p.core) [] 0 reply.Silence p seen.Hidden else refused 14 p).shown.answer.number) m
+    ap (λ (b : Bool). (if b then outcome_of (opened p.core) [] 0 reply.Silence p None else refused 14 p).shown.answer.number) m
 
 module _ (s : Switch Plain) where
   unread_number : (bytes : List ℕ) (n : ℕ) → (n ≡ 0 → ⊥) → ReadRow bytes n → number_in s.password (job_of_bytes bytes s.plain) ≡ n
@@ -80,9 +79,11 @@ module _ (s : Switch Plain) where
   packet_only : (bytes : List ℕ) (n : ℕ) → PacketRefused s bytes n → number_in s.password (job_of_bytes bytes s.plain) ≡ n
   unfolding job_of_bytes job_of_frame job_of_order garbled refused job_of_guess answer_of answer_with settled
   packet_only bytes n (not_read _ ne row) = unread_number bytes n ne row
-  packet_only bytes n (not_accepted h k so r) = rw (packet.only (Ok h) bytes so, judge.only s.plain.registers s.plain.core.mode h (order.Refused k) (message_of bytes) r)
+  packet_only bytes n (not_accepted h k so r) =
+      let by = judge.refused_by k s.plain.registers s.plain.core.mode h (message_of bytes) r in
+      rw (packet.only (Ok h) bytes so, by.1.0, by.1.1)
   packet_only bytes n (wrong_password guess a ne) =
-      rw (packet.only (Ok a.header) bytes a.sound, judge.only s.plain.registers s.plain.core.mode a.header (order.Guess guess) (message_of bytes) a.accepted)
+      rw (packet.only (Ok a.header) bytes a.sound, judge.only s.plain.registers s.plain.core.mode a.header (Ok (order.Guess guess)) (message_of bytes) a.accepted)
       (wrong_guess s.password guess s.plain (mismatch s.password guess ne))
 
   read_range : (bytes : List ℕ) (n : ℕ) → (n ≡ 0 → ⊥) → ReadRow bytes n → (4 ≤ n) × (n ≤ 8)
@@ -105,16 +106,16 @@ module _ (s : Switch Plain) where
   Found d n = (n ≡ 0) ⊎ DeedRefused s d n
 
   module _ (bytes : List ℕ) where
-    order_found : (h : Header) → Sound bytes h → (o : Order) → judged s.plain.registers s.plain.core.mode h (message_of bytes) ≡ o
+    order_found : (h : Header) → Sound bytes h → (o : Result Order Denied) → judged s.plain.registers s.plain.core.mode h (message_of bytes) ≡ o
         → (source : ℕ) (values : List ℕ) → Found (receive bytes) (number_in s.password (job_of_order o source values s.plain))
     unfolding Found job_of_order refused job_of_guess job_of_work job_of_read outcome_of answer_of answer_with settled
-    order_found h so (order.Refused n) e source values = inr (not_accepted h n so (judge.asks (order.Refused n) _ _ h _ e))
-    order_found h so (order.Guess guess) e source values =
+    order_found h so (Err d) e source values = inr (not_accepted h (number_of_denied d) so (judge.asks (Err d) _ _ h _ e))
+    order_found h so (Ok (order.Guess guess)) e source values =
         cases (λ (o : Outcome Plain Shown). Found (receive bytes) o.shown.answer.number) (matches s.password guess) (λ m. inl refl)
-        (λ m. inr (wrong_password guess (record { header = h; sound = so; accepted = judge.asks (order.Guess guess) _ _ h _ e }) (λ same. true≢false (sym (equal_matches s.password guess same) ∙ m))))
-    order_found h so (order.Read first count) e source values =
+        (λ m. inr (wrong_password guess (record { header = h; sound = so; accepted = judge.asks (Ok (order.Guess guess)) _ _ h _ e }) (λ same. true≢false (sym (equal_matches s.password guess same) ∙ m))))
+    order_found h so (Ok (order.Read first count)) e source values =
         both (λ (j : SwitchJob). Found (receive bytes) (number_in s.password j)) (in_setup s.plain.core.mode) (inl refl) (inl refl)
-    order_found h so (order.Work w) e source values = inl refl
+    order_found h so (Ok (order.Work w)) e source values = inl refl
 
     frame_found : (f : Result Header Flaw) → read_of bytes ≡ f → Found (receive bytes) (number_in s.password (job_of_frame f (message_of bytes) s.plain))
     unfolding Found job_of_frame garbled answer_of answer_with settled
@@ -228,8 +229,8 @@ these = record {
 -- A start's number, by the image's length.
 start_number : (image : List ℕ) (b : Bool) → eqb (length image) size ≡ b → number_of_start image ≡ (if b then 0 else 1)
 unfolding start_answer answer_of answer_with
-start_number image true h = ap (λ (b : Bool). (if b then answer_of 0 [] (started_from image).plain else no_answer (number_taken Refused)).number) h
-start_number image false h = ap (λ (b : Bool). (if b then answer_of 0 [] (started_from image).plain else no_answer (number_taken Refused)).number) h
+start_number image true h = ap (λ (b : Bool). (if b then answer_of 0 [] (started_from image).plain else no_answer (number_taken None)).number) h
+start_number image false h = ap (λ (b : Bool). (if b then answer_of 0 [] (started_from image).plain else no_answer (number_taken None)).number) h
 
 start_ways : {X : Type 0} (image : List ℕ) → (length image ≡ size → number_of_start image ≡ 0 → X)
     → ((length image ≡ size → ⊥) → number_of_start image ≡ 1 → X) → X
@@ -273,15 +274,16 @@ module _ (s : Switch Plain) where
   unfolding job_of_read settled outcome_of answer_of answer_with
   get_quiet first count source = both (Quietly s) (in_setup s.plain.core.mode) (λ ne. absurd (ne refl)) (λ ne. absurd (ne refl))
 
-  order_quiet : (h : Header) (m : List ℕ) (o : Order) → judged s.plain.registers s.plain.core.mode h m ≡ o
+  order_quiet : (h : Header) (m : List ℕ) (o : Result Order Denied) → judged s.plain.registers s.plain.core.mode h m ≡ o
       → (source : ℕ) (values : List ℕ) → Quietly s (job_of_order o source values s.plain)
   unfolding job_of_order job_of_work settled outcome_of answer_of answer_with
-  order_quiet h m (order.Refused n) e source values =
-      let i = judge.only_these n _ _ h m (judge.asks (order.Refused n) _ _ h m e) in
+  order_quiet h m (Err d) e source values =
+      let n = number_of_denied d in
+      let i = judge.only_these n _ _ h m (judge.asks (Err d) _ _ h m e) in
       refused_quiet n (rw (le-leb 4 n (omega arith), lt-leb n 8 (omega arith)))
-  order_quiet h m (order.Guess guess) e source values = open_quiet guess
-  order_quiet h m (order.Read first count) e source values = get_quiet first count source
-  order_quiet h m (order.Work w) e source values = λ ne. absurd (ne refl)
+  order_quiet h m (Ok (order.Guess guess)) e source values = open_quiet guess
+  order_quiet h m (Ok (order.Read first count)) e source values = get_quiet first count source
+  order_quiet h m (Ok (order.Work w)) e source values = λ ne. absurd (ne refl)
 
   frame_quiet : (f : Result Header Flaw) (m : List ℕ) → Quietly s (job_of_frame f m s.plain)
   unfolding job_of_frame

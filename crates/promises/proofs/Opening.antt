@@ -1,5 +1,5 @@
 -- What opens Setup, shown.
-use Rattle.std.specs.Prelude.{Result, Ok, Err}
+use Rattle.std.specs.Prelude.{Result, Ok, Err, None}
 use mathlib.Core.Bool.{Bool, true, false, true≢false, false≢true}
 use mathlib.Core.List.{List, [], ◌∷◌}
 use mathlib.Core.Logic.{◌⊎◌, inl, inr, ⊎_elim}
@@ -27,9 +27,9 @@ use Rattle.vault.proofs.Laws.{equal_matches, matches_equal, respond_right}
 use Rattle.paddle.specs.declared.Paddle.{Paddle}
 use Rattle.model.specs.Model.{paddle_of, room, contact_count}
 use Rattle.places.specs.Places.{network_in, unit_in}
-use Rattle.registers.specs.declared.Seen.TheVariants as seen
 use Rattle.judge.specs.Judge.{judged}
 use Rattle.reach.specs.Promises.{NotFor}
+use Rattle.judge.specs.declared.Denied.{Denied}
 use Rattle.judge.specs.declared.Order.{Order}
 use Rattle.judge.specs.declared.Order.TheVariants as order
 use Rattle.judge.specs.declared.Work.{Work}
@@ -95,12 +95,12 @@ module _ (s : Switch Plain) (out : Outside s) where
     obey_leads w source values to = work_stays w (sym (ap in_setup (work_leads_lem s.plain.registers w s.plain.core)) ∙ to)
 
     open_leads : (h : Header) (guess : Password) → Sound bytes h
-        → judged s.plain.registers s.plain.core.mode h (message_of bytes) ≡ order.Guess guess → Leads (receive bytes) (job_of_guess guess s.plain)
+        → judged s.plain.registers s.plain.core.mode h (message_of bytes) ≡ Ok (order.Guess guess) → Leads (receive bytes) (job_of_guess guess s.plain)
     unfolding job_of_guess refused settled
     open_leads h guess so e =
         cases (λ (o : Outcome Plain Shown). Leaves (receive bytes) o.next.core.mode) (matches s.password guess)
         (λ m to. inl (record {
-          start = record { bytes = bytes; guess = guess; received = refl; asks = record { header = h; sound = so; accepted = judge.asks (order.Guess guess) _ _ h _ e } };
+          start = record { bytes = bytes; guess = guess; received = refl; asks = record { header = h; sound = so; accepted = judge.asks (Ok (order.Guess guess)) _ _ h _ e } };
           right = matches_equal s.password guess m;
         }))
         (λ m. same_mode (receive bytes) _ refl)
@@ -111,13 +111,13 @@ module _ (s : Switch Plain) (out : Outside s) where
         let stays : Leaves (receive bytes) s.plain.core.mode = same_mode (receive bytes) _ refl in
         both (Leads (receive bytes)) (in_setup s.plain.core.mode) stays stays
 
-    order_opens : (h : Header) (o : Order) → Sound bytes h → judged s.plain.registers s.plain.core.mode h (message_of bytes) ≡ o
+    order_opens : (h : Header) (o : Result Order Denied) → Sound bytes h → judged s.plain.registers s.plain.core.mode h (message_of bytes) ≡ o
         → (source : ℕ) (values : List ℕ) → Leads (receive bytes) (job_of_order o source values s.plain)
     unfolding job_of_order refused settled
-    order_opens h (order.Refused n) so e source values = same_mode (receive bytes) _ refl
-    order_opens h (order.Guess guess) so e source values = open_leads h guess so e
-    order_opens h (order.Read first count) so e source values = get_leads first count source
-    order_opens h (order.Work w) so e source values = obey_leads w source values
+    order_opens h (Err d) so e source values = same_mode (receive bytes) _ refl
+    order_opens h (Ok (order.Guess guess)) so e source values = open_leads h guess so e
+    order_opens h (Ok (order.Read first count)) so e source values = get_leads first count source
+    order_opens h (Ok (order.Work w)) so e source values = obey_leads w source values
 
     frame_leads : (f : Result Header Flaw) → read_of bytes ≡ f → Leads (receive bytes) (job_of_frame f (message_of bytes) s.plain)
     unfolding job_of_frame garbled signalled settled
@@ -147,13 +147,13 @@ module _ (s : Switch Plain) (lent : ℕ) (d : Deed) (enough : room ≤ lent) (ri
   right_job =
       let g = right.start in
       ap (λ (d : Deed). job s.plain (event lent d)) g.received
-      ∙ receive_job s.plain lent g.bytes g.asks.header (order.Guess g.guess) enough (packet.only (Ok g.asks.header) g.bytes g.asks.sound)
-      (judge.only s.plain.registers s.plain.core.mode g.asks.header (order.Guess g.guess) (message_of g.bytes) g.asks.accepted)
+      ∙ receive_job s.plain lent g.bytes g.asks.header (Ok (order.Guess g.guess)) enough (packet.only (Ok g.asks.header) g.bytes g.asks.sound)
+      (judge.only s.plain.registers s.plain.core.mode g.asks.header (Ok (order.Guess g.guess)) (message_of g.bytes) g.asks.accepted)
 
-  right_answer : respond s (event lent d) ≡ answered (outcome_of (opened s.plain.core) [] 0 reply.Silence s.plain seen.Hidden) s.password
+  right_answer : respond s (event lent d) ≡ answered (outcome_of (opened s.plain.core) [] 0 reply.Silence s.plain None) s.password
   unfolding job_of_guess
   right_answer =
-      respond_right wall_switch s (event lent d) right.start.guess (outcome_of (opened s.plain.core) [] 0 reply.Silence s.plain seen.Hidden)
+      respond_right wall_switch s (event lent d) right.start.guess (outcome_of (opened s.plain.core) [] 0 reply.Silence s.plain None)
       (refused 14 s.plain) right_job (equal_matches s.password right.start.guess right.right)
 
   right_number : number_at s (event lent d) ≡ 0

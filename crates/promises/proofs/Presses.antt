@@ -1,5 +1,5 @@
 -- Presses seen whole: cases (f) and (g) of a switch at rest, event by event.
-use Rattle.std.specs.Prelude.{if◌then◌else◌}
+use Rattle.std.specs.Prelude.{Option, Some, None, if◌then◌else◌}
 use mathlib.Core.Bool.{Bool, true, false}
 use mathlib.Core.List.{List, [], ◌∷◌, ◌++◌, map}
 use mathlib.Core.Path.{◌≡◌, refl, sym, ap, ap₂, ◌∙◌, subst}
@@ -48,7 +48,7 @@ use Rattle.acts.specs.declared.Core.{Core}
 use Rattle.acts.specs.declared.Effect.{Effect}
 use Rattle.acts.proofs.Laws.{contact_drives, driver_halts}
 use Rattle.gestures.proofs.Laws.{gesture_leads, gesture_writes}
-use Rattle.herald.specs.Herald.{announced, chosen, gesture_message}
+use Rattle.herald.specs.Herald.{announced, chosen, gesture_message, numbered}
 use Rattle.panel.specs.Panel.{gesture_at, paddle_at, pressed_at, released_at}
 use Rattle.panel.proofs.Laws.{paddle_low}
 use Rattle.turns.specs.Turns.{Moment, after, turned, turns}
@@ -101,10 +101,14 @@ same_chosen : (all now : List ℕ) → Agrees all now → (number : ℕ) (p : Pe
 unfolding chosen
 same_chosen all now same number p = rw (same_entry all now same (number % 16))
 
+same_numbered : (all now : List ℕ) → Agrees all now → (number : Option ℕ) (p : Percent) → numbered now number p ≡ numbered all number p
+same_numbered all now same None p = refl
+same_numbered all now same (Some number) p = same_chosen all now same number p
+
 same_announced : (all now : List ℕ) → Agrees all now → (mode : Mode) (i : ℕ) (g : Gesture) (p : Percent) → announced now mode i g p ≡ announced all mode i g p
 unfolding announced gesture_message
 same_announced all now same mode i g p =
-    rw (same_transmit all now same i, same 0x00 (λ e. omega arith), same 0x01 (λ e. omega arith), same_chosen all now same)
+    rw (same_transmit all now same i, same 0x00 (λ e. omega arith), same 0x01 (λ e. omega arith), same_numbered all now same)
 
 -- A gesture that writes nothing and leaves mode and lamp: one tap, Hold and Release in every mode, two taps in Normal.
 record Plainly (mode : Mode) (g : Gesture) : Type 0 where

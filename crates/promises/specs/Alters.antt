@@ -19,6 +19,7 @@ use Rattle.places.specs.declared.Counter.TheVariants.{Restarts, Setups}
 use Rattle.writes.specs.declared.Write.{Write}
 use Rattle.writes.specs.declared.Write.TheVariants.{Nothing, Count, Save, Preset, Factory, Values}
 use Rattle.judge.specs.Judge.{judged}
+use Rattle.judge.specs.declared.Denied.{Denied}
 use Rattle.judge.specs.declared.Order.{Order}
 use Rattle.judge.specs.declared.Order.TheVariants as order
 use Rattle.judge.specs.declared.Work.TheVariants as work
@@ -55,15 +56,15 @@ by_saving save level = if eqb save 0 then Save (percent_of level) else Nothing
 
 -- A packet that is read: Start Setup counts in 0xFA where its guess is right, Set Registers writes its values, Store Preset the percent; no
 -- other order writes.
-unfoldable pub by_order : Switch Plain → Order → List ℕ → List Writing
-by_order s (order.Refused n) values = []
-by_order s (order.Guess guess) values = if matches s.password guess then bare (Count Setups) ∷ [] else []
-by_order s (order.Read first count) values = []
-by_order s (order.Work work.Report) values = []
-by_order s (order.Work work.Close) values = []
-by_order s (order.Work (work.Set first)) values = writing (Values first) values ∷ []
-by_order s (order.Work (work.Store i)) values = bare (Preset i (percent_of s.plain.core.dimmer.level)) ∷ []
-by_order s (order.Work (work.Drive d)) values = []
+unfoldable pub by_order : Switch Plain → Result Order Denied → List ℕ → List Writing
+by_order s (Err d) values = []
+by_order s (Ok (order.Guess guess)) values = if matches s.password guess then bare (Count Setups) ∷ [] else []
+by_order s (Ok (order.Read first count)) values = []
+by_order s (Ok (order.Work work.Report)) values = []
+by_order s (Ok (order.Work work.Close)) values = []
+by_order s (Ok (order.Work (work.Set first))) values = writing (Values first) values ∷ []
+by_order s (Ok (order.Work (work.Store i))) values = bare (Preset i (percent_of s.plain.core.dimmer.level)) ∷ []
+by_order s (Ok (order.Work (work.Drive d))) values = []
 
 -- A packet that is not read writes nothing.
 unfoldable pub by_frame : Switch Plain → Result Header Flaw → List ℕ → List Writing

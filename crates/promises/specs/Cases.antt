@@ -1,5 +1,5 @@
 -- 01, Numbers to test by: the cases (a) to (j) as one table, of every switch that a case describes.
-use Rattle.std.specs.Prelude.{true, List, [], ◌∷◌, ◌++◌, ◌≡◌, ℕ, zero, suc, ◌%◌, ◌≤◌, ◌<◌, get_or, length, set}
+use Rattle.std.specs.Prelude.{true, List, [], ◌∷◌, ◌++◌, ◌≡◌, ℕ, zero, suc, ◌%◌, ◌≤◌, ◌<◌, get_or, length, set, Some}
 use Rattle.units.specs.Units.{full, off, step}
 use Rattle.vault.specs.Job.{Switch}
 use Rattle.vault.specs.Vault.{password}
@@ -11,7 +11,6 @@ use Rattle.lamp.specs.declared.Colour.TheVariants.{Green, Red}
 use Rattle.model.specs.Model.{room, contact_count}
 use Rattle.places.specs.Places.{dimming_in, network_in, size, unit_in}
 use Rattle.registers.specs.Registers.{found}
-use Rattle.registers.specs.declared.Found.TheVariants.{At}
 use Rattle.judge.specs.Judge.{driving}
 use Rattle.judge.specs.declared.Drive.TheVariants as drive
 use Rattle.herald.specs.Promises.{CaseJ}
@@ -80,14 +79,14 @@ packet_full = 0x89 ∷ 0x00 ∷ 0x01 ∷ 0x03 ∷ 0x09 ∷ 0x22 ∷ 0x64 ∷ 0x0
 pub record Cases : Type 0 where
   -- There is such a switch.
   pub bench : Bench (started_from bench_image)
-  pub linked : found (started_from bench_image).plain.registers 3 ≡ At 0
+  pub linked : found (started_from bench_image).plain.registers 3 ≡ Some 0
   -- Every start leaves a switch at rest, with nothing running.
   pub rests : (image : List ℕ) → AtRest (started_from image) × ((dimmer_in (started_from image)).motion ≡ Idle)
   -- (a): Report Status is answered 0 and by a status of 40 percent.
   pub a : (s : Switch Plain) (lent : ℕ) → room ≤ lent → Bench s
       → (number_at s (event lent (receive packet_a)) ≡ 0) × ((respond s (event lent (receive packet_a))).shown.sent ≡ reply_a ∷ [])
   -- (b): Goto 50 percent at rate 0, on link 3, is there at once, and nothing runs.
-  pub b : (s : Switch Plain) (lent i : ℕ) → room ≤ lent → Bench s → found s.plain.registers 3 ≡ At i
+  pub b : (s : Switch Plain) (lent i : ℕ) → room ≤ lent → Bench s → found s.plain.registers 3 ≡ Some i
       → (number_at s (event lent (receive packet_b)) ≡ 0)
       × (((respond s (event lent (receive packet_b))).shown.answer.level ≡ step 100)
       × ((respond s (event lent (receive packet_b))).next.plain.core.dimmer.motion ≡ Idle))
