@@ -11,7 +11,7 @@ ghost use Rattle.switch.specs.Respond.{Responds};
 ghost use Rattle.edges.specs.Code.{let_go, LetsGo};
 
 use acts::halted;
-use answers::Answer;
+use answers::{Answer, Refusal};
 use dimmer::Dimmer;
 use lamp::Colour;
 use model::{CONTACTS, ROOM, paddle_of};
@@ -20,8 +20,8 @@ use outbox::{Outbox, Sent};
 use paddle::Gesture;
 use panel::BYTES;
 use state::parts::{dimmer_of, keep_dimmer, mode_in};
-use state::{COUNTERS, NUMBERS, sized};
-use switch::shown;
+use state::{COUNTERS, NUMBERS};
+use switch::{refused, shown};
 use units::Percent;
 use vault::Mode;
 
@@ -37,10 +37,10 @@ pub fn press(
     ensures { Responds (press contact) counters.now numbers.now paddles.old all.now out.now result counters.now numbers.now paddles.new all.now out.now }
 {
     if out.len() < ROOM {
-        return shown(2, Sent::none(), counters, numbers, all);
+        return refused(Refusal::Room, counters, numbers, all);
     }
     if CONTACTS <= contact {
-        return shown(3, Sent::none(), counters, numbers, all);
+        return refused(Refusal::Contact, counters, numbers, all);
     }
     panel::press(contact, paddles);
     shown(0, Sent::none(), counters, numbers, all)
@@ -58,16 +58,15 @@ pub fn release(
     ensures { Responds (release contact) counters.old numbers.old paddles.old all.now out.old result counters.new numbers.new paddles.new all.now out.new }
 {
     if out.len() < ROOM {
-        return shown(2, Sent::none(), counters, numbers, all);
+        return refused(Refusal::Room, counters, numbers, all);
     }
     if CONTACTS <= contact {
-        return shown(3, Sent::none(), counters, numbers, all);
+        return refused(Refusal::Contact, counters, numbers, all);
     }
     let gesture = panel::release(contact, paddles);
     if gesture.none() {
         return shown(0, Sent::none(), counters, numbers, all);
     }
-    sized(counters, numbers);
     let sent = let_go(paddle_of(contact) as u8, counters, numbers, all, out);
     shown(0, sent, counters, numbers, all)
 }

@@ -5,14 +5,14 @@ ghost use Rattle.std.specs.Prelude.{◌≡◌, ℕ, List, drop};
 ghost use Rattle.switch.specs.Switch.{receive};
 ghost use Rattle.switch.specs.Respond.{Responds};
 
-use answers::Answer;
+use answers::{Answer, Refusal};
 use lamp::Colour;
 use model::ROOM;
 use obey::{hue_of, obey, signal};
 use outbox::Sent;
 use state::parts::{mode_in, password_of};
-use state::{COUNTERS, NUMBERS, sized};
-use switch::shown;
+use state::{COUNTERS, NUMBERS};
+use switch::{refused, shown};
 use verdict::verdict_of;
 
 pub fn receive(
@@ -25,9 +25,8 @@ pub fn receive(
     ensures { (paddles : List ℕ) → Responds (receive packet.now) counters.old numbers.old paddles all.old out.old result counters.new numbers.new paddles all.new out.new }
 {
     if out.len() < ROOM {
-        return shown(2, Sent::none(), counters, numbers, all);
+        return refused(Refusal::Room, counters, numbers, all);
     }
-    sized(counters, numbers);
     let frame = packet::read(packet);
     let Ok(header) = frame else {
         signal(Colour::Black, counters, numbers);

@@ -9,7 +9,7 @@ use model::PADDLES;
 use paddle::Gesture;
 use places::Counter;
 use state::parts::{keep_mode, keep_password, keep_timers, lamp_of, mode_in, password_of};
-use state::{COUNTERS, NUMBERS, sized};
+use state::{COUNTERS, NUMBERS};
 use vault::Mode;
 use writes::{Write, apply, password};
 
@@ -49,7 +49,6 @@ pub fn shift(
 )
     ensures { Shifts taps counters.old numbers.old all.old counters.new numbers.new all.new }
 {
-    sized(counters, numbers);
     let mode = mode_in(numbers);
     move_on(counters, numbers);
     let lamp = lamp_of(counters, numbers).tick().entered();

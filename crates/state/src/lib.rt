@@ -8,9 +8,6 @@
 // A number that stands for nothing is read as the first of its list.
 #![tactic(auto)]
 
-ghost use Rattle.std.specs.Prelude.{◌≡◌, length};
-ghost use Rattle.state.specs.Code.{Sized};
-
 pub mod kinds;
 pub mod parts;
 
@@ -18,11 +15,3 @@ pub mod parts;
 pub const COUNTERS: usize = 7;
 
 pub const NUMBERS: usize = 8;
-
-// Each array has its length: an event says so once, and needs no code for it.
-pub fn sized(counters: &[u16; COUNTERS], numbers: &[u8; NUMBERS])
-    ensures { Sized counters.now numbers.now }
-{
-    let some: &[u16] = counters;
-    let others: &[u8] = numbers;
-}

@@ -4,12 +4,14 @@
 // read alone.
 #![tactic(auto)]
 
-ghost use Rattle.std.specs.Prelude.{◌≡◌};
+ghost use Rattle.std.specs.Prelude.{◌≡◌, []};
+ghost use Rattle.answers.specs.Answers.{number_of_refusal};
+ghost use Rattle.outbox.specs.Outbox.{tally};
 ghost use Rattle.state.specs.State.{core_of};
 ghost use Rattle.switch.specs.Switch.{answer_with};
 
 use acts::Core;
-use answers::Answer;
+use answers::{Answer, Refusal};
 use outbox::Sent;
 use state::parts::core_of;
 use state::{COUNTERS, NUMBERS};
@@ -25,6 +27,18 @@ pub fn shown(
     ensures { result ≡ answer_with number sent all.now (core_of counters.now numbers.now) }
 {
     show(number, sent, core_of(counters, numbers), all)
+}
+
+// What is shown of a switch that refuses an event: it is as it was, and sends nothing.
+pub fn refused(
+    refusal: Refusal,
+    counters: &[u16; COUNTERS],
+    numbers: &[u8; NUMBERS],
+    all: &[u8; 256],
+) -> Answer
+    ensures { result ≡ answer_with (number_of_refusal refusal) (tally []) all.now (core_of counters.now numbers.now) }
+{
+    shown(refusal.number(), Sent::none(), counters, numbers, all)
 }
 
 // What is shown of a switch with this core.

@@ -9,7 +9,7 @@ ghost use Rattle.switch.specs.Code.{signalled_on};
 ghost use Rattle.ticks.specs.Code.{Finishes, Ticks, Turns};
 
 use acts::Core;
-use answers::Answer;
+use answers::{Answer, Refusal};
 use lamp::Colour;
 use model::{PADDLES, ROOM};
 use moves::pass;
@@ -18,8 +18,8 @@ use outbox::{Outbox, Sent};
 use paddle::Gesture;
 use panel::BYTES;
 use state::parts::{core_of, keep, mode_in, password_of, save_in};
-use state::{COUNTERS, NUMBERS, sized};
-use switch::{show, shown};
+use state::{COUNTERS, NUMBERS};
+use switch::{refused, show, shown};
 use turns::turns;
 use vault::Password;
 use writes::apply;
@@ -37,7 +37,7 @@ pub fn tick(
     ensures { Responds tick counters.old numbers.old paddles.old all.old out.old result counters.new numbers.new paddles.new all.new out.new }
 {
     if out.len() < ROOM {
-        return shown(2, Sent::none(), counters, numbers, all);
+        return refused(Refusal::Room, counters, numbers, all);
     }
     if save_in(counters) == 0 {
         let answer = complete(counters, numbers, paddles, all, out);
@@ -47,7 +47,6 @@ pub fn tick(
         let answer = complete(counters, numbers, paddles, all, out);
         return answer;
     }
-    sized(counters, numbers);
     panel::run(paddles);
     pass(counters, numbers);
     shown(0, Sent::none(), counters, numbers, all)
@@ -63,7 +62,6 @@ fn complete(
 ) -> Answer
     ensures { Ticks counters.old numbers.old paddles.old all.old out.old result counters.new numbers.new paddles.new all.new out.new }
 {
-    sized(counters, numbers);
     let gestures = panel::tick(paddles);
     match lone(gestures) {
         Some(taps) if shifts(mode_in(numbers), taps) => {

@@ -9,7 +9,7 @@ ghost use Rattle.switch.specs.Respond.{Responds, Starts, no_answer};
 ghost use Rattle.wakes.specs.Code.{Wakes};
 
 use acts::Core;
-use answers::Answer;
+use answers::{Answer, Refusal};
 use lamp::Colour;
 use model::ROOM;
 use outbox::Sent;
@@ -17,7 +17,7 @@ use panel::BYTES;
 use places::Counter;
 use state::parts::{keep, password_of};
 use state::{COUNTERS, NUMBERS};
-use switch::{show, shown};
+use switch::{refused, show};
 use units::Step;
 use vault::{Mode, Password};
 use writes::{Write, apply};
@@ -52,7 +52,7 @@ pub fn restart(
     ensures { Responds restart counters.old numbers.old paddles.old all.old out.now result counters.new numbers.new paddles.new all.new out.now }
 {
     if out.len() < ROOM {
-        return shown(2, Sent::none(), counters, numbers, all);
+        return refused(Refusal::Room, counters, numbers, all);
     }
     wake(password_of(numbers), counters, numbers, paddles, all)
 }
@@ -87,7 +87,7 @@ fn nobody() -> Answer
 {
     Answer {
         sent: Sent::none(),
-        number: 1,
+        number: Refusal::Image.number(),
         level: Step::OFF,
         output: Step::OFF,
         colour: Colour::Black,

@@ -1,3 +1,4 @@
+use Rattle.std.proofs.Common.{refl}
 use native.Mathlib.Omega.{arith}
 use Rattle.switch.specs.Switch.{press}
 use Rattle.switch.proofs.Laws.{short_responds}
@@ -7,10 +8,10 @@ use Rattle.edges.proofs.press.Goals as goal
 pub returns-then-out-lt-ROOM : goal.returns-then-out-lt-ROOM
 returns-then-out-lt-ROOM c =
     let a = c.args in
-    short_responds (press a.contact) _ _ _ _ _ c.none.result c.shown.result (omega arith) c.none.ensures c.shown.ensures
+    short_responds (press a.contact) _ _ _ _ _ _ c.refused.result (omega arith) refl c.refused.ensures
 
 pub returns-then-contact-ge-CONTACTS : goal.returns-then-contact-ge-CONTACTS
-returns-then-contact-ge-CONTACTS c = press_unknown _ _ _ _ _ _ c.none-then-contact-ge-CONTACTS.result c.shown-then-contact-ge-CONTACTS.result (omega arith) c.none-then-contact-ge-CONTACTS.ensures (omega arith) c.shown-then-contact-ge-CONTACTS.ensures
+returns-then-contact-ge-CONTACTS c = press_unknown _ _ _ _ _ _ _ c.refused-then-contact-ge-CONTACTS.result (omega arith) refl (omega arith) c.refused-then-contact-ge-CONTACTS.ensures
 
 pub returns : goal.returns
 returns c = press_known _ _ _ _ _ _ c.none-2.result c.shown-2.result (omega arith) c.none-2.ensures _ (omega arith) c.press.ensures c.shown-2.ensures

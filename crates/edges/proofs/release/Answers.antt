@@ -1,3 +1,4 @@
+use Rattle.std.proofs.Common.{refl, rules}
 use native.Mathlib.Omega.{arith}
 use Rattle.panel.proofs.Laws.{paddle_low}
 use Rattle.switch.specs.Switch.{release}
@@ -6,10 +7,10 @@ use Rattle.edges.proofs.Pressing.{release_responds, release_still, release_unkno
 use Rattle.edges.proofs.release.Goals as goal
 
 pub returns-then-out-lt-ROOM : goal.returns-then-out-lt-ROOM
-returns-then-out-lt-ROOM c = short_responds (release c.args.contact) _ _ _ _ _ c.none.result c.shown.result (omega arith) c.none.ensures c.shown.ensures
+returns-then-out-lt-ROOM c = short_responds (release c.args.contact) _ _ _ _ _ _ c.refused.result (omega arith) refl c.refused.ensures
 
 pub returns-then-contact-ge-CONTACTS : goal.returns-then-contact-ge-CONTACTS
-returns-then-contact-ge-CONTACTS c = release_unknown _ _ _ _ _ _ c.none-then-contact-ge-CONTACTS.result c.shown-then-contact-ge-CONTACTS.result (omega arith) c.none-then-contact-ge-CONTACTS.ensures (omega arith) c.shown-then-contact-ge-CONTACTS.ensures
+returns-then-contact-ge-CONTACTS c = release_unknown _ _ _ _ _ _ _ c.refused-then-contact-ge-CONTACTS.result (omega arith) refl (omega arith) c.refused-then-contact-ge-CONTACTS.ensures
 
 pub returns-then-none : goal.returns-then-none
 returns-then-none c =
@@ -20,5 +21,5 @@ overflow_cast-paddle_of c = omega (arith, paddle_low c.args.contact, c.paddle_of
 
 pub returns : goal.returns
 returns c =
-    release_responds _ _ _ _ _ _ _ _ _ _ _ _ _ _ _ (omega (arith, c.if-out-lt-ROOM.false)) (omega (arith, c.if-contact-ge-CONTACTS.false)) c.release-gesture.ensures c.none-2.ensures c.if-none.false c.sized.ensures c.paddle_of.ensures
+    release_responds _ _ _ _ _ _ _ _ _ _ _ _ _ _ _ (omega (arith, c.if-out-lt-ROOM.false)) (omega (arith, c.if-contact-ge-CONTACTS.false)) c.release-gesture.ensures c.none-2.ensures c.if-none.false (record { counted = search rules; numbered = search rules }) c.paddle_of.ensures
     c.let_go-sent.ensures c.shown-2.ensures
