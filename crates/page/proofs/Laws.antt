@@ -10,7 +10,7 @@ use lib.ListN.{length, take, drop, set, length-append, length-set}
 use lib.Seq.{sets, sets-eq}
 use Rattle.std.proofs.lemmas.Grind.{take_at_read}
 use Rattle.words.proofs.Laws.{two_ways}
-use Rattle.page.specs.Page.{Page, put, puts, digits_up_to, digits, hex_of, word, listed, line, page_of}
+use Rattle.page.specs.Page.{Page, put, puts, digits_up_to, digits, hex_of, listed, page_of}
 use native.Mathlib.Nat.{add-zero, pow-suc}
 
 -- A text and then another one is the second behind the first.
@@ -18,19 +18,6 @@ pub puts_append : (a b : List ℕ) (p : Page) → puts (a ++ b) p ≡ puts b (pu
 unfolding puts
 puts_append [] b p = refl
 puts_append (byte ∷ a) b p = puts_append a b (put byte p)
-
--- Two texts written one behind the other.
-pub after : (a b : List ℕ) (p q r : Page) → q ≡ puts a p → r ≡ puts b q → r ≡ puts (a ++ b) p
-after a b p q r first second = second ∙ rw (first, puts_append)
-
--- A line's opening, what it says, and its end.
-pub lined : (letter : ℕ) (text : List ℕ) (p q r s : Page)
-    → q ≡ puts (letter ∷ word " ") p
-    → r ≡ puts text q
-    → s ≡ puts (word "\n") r
-    → s ≡ puts (line letter text) p
-unfolding line
-lined letter text p q r s opened said ended = after _ _ p q s opened (after _ _ q r s said ended)
 
 -- Bytes in hex, and numbers behind spaces, one list behind the other.
 pub hex_append : (a b : List ℕ) → hex_of (a ++ b) ≡ hex_of a ++ hex_of b
@@ -61,8 +48,7 @@ pub more_digits : (n : ℕ) → 10 ≤ n → digits n ≡ digits (n / 10) ++ (co
 unfolding digits digits_up_to
 more_digits n h = rw (le-ltb n 10 h, enough n (suc (n / 10)) (n / 10) (omega arith) (omega arith))
 
--- What a writer writes is written step by step: one text behind the other, a list's elements one by one, a number's last digit
--- behind the others.
+-- The writers' proofs go by these: texts one behind the other, the next element of a list, a number's last digit.
 pub ruleset step_by_step = (puts_append, take_at_read, hex_append, listed_append, one_digit, more_digits)
 
 -- Where there is room, the bytes are stored one after the other.
