@@ -1,5 +1,5 @@
 -- What the proofs of `play` lean on: starts and events over what their callees promise, and equal rows.
-use Rattle.std.specs.Prelude.{if◌then◌else◌}
+use Rattle.std.specs.Prelude.{Some, if◌then◌else◌}
 use Prim.Native.Nat.{ℕ, suc, ◌+◌, ◌<◌}
 use native.Mathlib.Numerals.{add-one}
 use mathlib.Core.Bool.{Bool, true, false, ◌&&◌, and-false, false≢true}
@@ -21,10 +21,10 @@ use Rattle.answers.specs.declared.Answer.{Answer}
 use Rattle.page.specs.Page.{Page, puts}
 use Rattle.ledger.specs.Writing.{started}
 use Rattle.line.specs.declared.Line.{Line}
-use Rattle.line.specs.declared.Line.TheVariants.{Pass, Unread, Image, Room, Press, Release, Ticks, Packet, Restart, Dump}
+use Rattle.line.specs.declared.Line.TheVariants.{Pass, Image, Room, Press, Release, Ticks, Packet, Restart, Dump}
 use Rattle.stage.specs.declared.Desk.{Desk}
 use Rattle.stage.specs.Stage.{scene, scene_of, deed_of, told, Plays, Scene, letter_of}
-use Rattle.desk.specs.Playing.{cleared, begun, ticks_of, same, played, event_of}
+use Rattle.desk.specs.Playing.{cleared, begun, same, played, event_of}
 use Rattle.stage.specs.declared.Event.TheVariants as happens
 use Rattle.stage.specs.declared.Event.{Event}
 
@@ -87,7 +87,6 @@ begins image desk c n l all c' n' l' all' answer page page' start wrote buffer =
 pub no_event : (line : Line) → ((n : ℕ) → line ≡ Press n → ⊥) → ((n : ℕ) → line ≡ Release n → ⊥) → ((n : ℕ) → line ≡ Packet n → ⊥) → event_of line ≡ happens.Restart
 unfolding event_of
 no_event Pass press release packet = refl
-no_event Unread press release packet = refl
 no_event (Image n) press release packet = refl
 no_event (Room n) press release packet = refl
 no_event (Press n) press release packet = absurd (press n refl)
@@ -100,7 +99,6 @@ no_event Dump press release packet = refl
 -- A line for which `play` has no arm of its own.
 pub record IsOther (line : Line) : Type 0 where
   pub pass : line ≡ Pass → ⊥
-  pub unread : line ≡ Unread → ⊥
   pub image : (n : ℕ) → line ≡ Image n → ⊥
   pub room : (n : ℕ) → line ≡ Room n → ⊥
   pub ticks : (n : ℕ) → line ≡ Ticks n → ⊥
@@ -108,10 +106,9 @@ pub record IsOther (line : Line) : Type 0 where
 
 -- A line that is an event does what its event does.
 event_line : (number : ℕ) (line : Line) (bytes : List ℕ) (s : Scene) → IsOther line
-    → played number line bytes s ≡ told (letter_of (event_of line)) (deed_of (event_of line) bytes) s
+    → played number (Some line) bytes s ≡ told (letter_of (event_of line)) (deed_of (event_of line) bytes) s
 unfolding played event_of
 event_line number Pass bytes s k = absurd (k.pass refl)
-event_line number Unread bytes s k = absurd (k.unread refl)
 event_line number (Image n) bytes s k = absurd (k.image n refl)
 event_line number (Room n) bytes s k = absurd (k.room n refl)
 event_line number (Press n) bytes s k = refl
@@ -126,22 +123,8 @@ pub told_line : (number : ℕ) (line : Line) (bytes : List ℕ) (s : Scene) (e :
     → IsOther line
     → e ≡ event_of line
     → Plays (told (letter_of e) (deed_of e bytes) s) page desk c n l all buffer page'
-    → Plays (played number line bytes s) page desk c n l all buffer page'
+    → Plays (played number (Some line) bytes s) page desk c n l all buffer page'
 told_line number line bytes s e page page' desk c n l all buffer is e-is plays = rw (event_line number line bytes s is, ← e-is) plays
-
--- Any line but `t` asks for no ticks.
-pub no_ticks : (line : Line) (there : Bool) → ((n : ℕ) → line ≡ Ticks n → ⊥) → ticks_of line there ≡ 0
-unfolding ticks_of
-no_ticks Pass there k = refl
-no_ticks Unread there k = refl
-no_ticks (Image n) there k = refl
-no_ticks (Room n) there k = refl
-no_ticks (Press n) there k = refl
-no_ticks (Release n) there k = refl
-no_ticks (Ticks n) there k = absurd (k n refl)
-no_ticks (Packet n) there k = refl
-no_ticks Restart there k = refl
-no_ticks Dump there k = refl
 
 -- Rows are the same where they are equal, and there alone.
 pub same_itself : (row : List ℕ) → same row row ≡ true

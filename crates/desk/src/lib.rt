@@ -13,9 +13,11 @@ use panel::BYTES;
 use stage::{Desk, Event, Turn, tell};
 use state::{COUNTERS, NUMBERS};
 
-// A line that was read, by its number in the script. The ticks that it asks of a switch are run one by one, by ``stage::tick`.
+// A line of the script by its number, or none where it does not read. The ticks that it asks of a switch are run one by one, by
+// `stage::tick`.
+#[tactic(auto, unfolding(crate::specs::Playing::played, page::specs::Page::puts))]
 pub fn play(
-    line: Line,
+    line: Option<Line>,
     number: u64,
     bytes: &[u8],
     desk: Desk,
@@ -29,12 +31,14 @@ pub fn play(
 ) -> Turn
     ensures { Plays (played number line bytes.now (scene_of desk counters.old numbers.old paddles.old all.old buffer.old)) (page_of page.old at) result.desk counters.new numbers.new paddles.new all.new buffer.new (page_of page.new result.at) }
 {
-    match line {
-        Line::Pass => Turn { desk, at },
-        Line::Unread => Turn {
+    let Some(line) = line else {
+        return Turn {
             desk,
             at: page::unread(page, at, number),
-        },
+        };
+    };
+    match line {
+        Line::Pass => Turn { desk, at },
         Line::Image(n) => begin(
             front(bytes, n),
             desk,
@@ -85,16 +89,14 @@ fn event(line: Line) -> Event
 }
 
 // How many ticks a line asks of the switch that is there.
-pub fn ticks(line: Line, desk: Desk) -> u32
+#[tactic(auto, unfolding(crate::specs::Playing::ticks_of))]
+pub fn ticks(line: Option<Line>, desk: Desk) -> u32
     ensures { result ≡ ticks_of line desk.there }
 {
-    let Line::Ticks(n) = line else {
-        return 0;
-    };
-    if desk.there {
-        return n;
+    match line {
+        Some(Line::Ticks(n)) if desk.there => n,
+        _ => 0,
     }
-    0
 }
 
 // Whether two rows are equal.

@@ -295,11 +295,11 @@ fn perform(
 }
 
 // The lines that did not read, this one counted.
-fn missed(said: Line, unread: u64) -> u64 {
-    let Line::Unread = said else {
-        return unread;
-    };
-    more(unread)
+fn missed(said: Option<Line>, unread: u64) -> u64 {
+    match said {
+        Some(_) => unread,
+        None => more(unread),
+    }
 }
 
 // So many ticks, and the lines of their runs.
