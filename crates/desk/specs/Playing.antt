@@ -1,6 +1,6 @@
 -- What a line of a script does to the switch on the desk, and what is written of it (docs/SCRIPT.md).
 use Prim.Native.Char.{code}
-use Rattle.std.specs.Prelude.{ℕ, Bool, true, false, not, ◌&&◌, List, [], ◌∷◌, Option, None, Some, eqb, take, replicate, if◌then◌else◌}
+use Rattle.std.specs.Prelude.{ℕ, Bool, not, List, [], Option, None, Some, eqb, take, replicate, if◌then◌else◌}
 use Rattle.vault.specs.declared.Password.{Password}
 use Rattle.registers.specs.Registers.{image_of}
 use Rattle.state.specs.State.{counter_count, number_count, password_of}
@@ -9,8 +9,6 @@ use Rattle.switch.specs.Switch.{Arrays, arrays, kept_in, press, release, receive
 use Rattle.switch.specs.Respond.{whole, start_answer, started_from}
 use Rattle.line.specs.declared.Line.{Line}
 use Rattle.line.specs.declared.Line.TheVariants.{Pass, Image, Room, Press, Release, Ticks, Packet, Restart, Dump}
-use Rattle.stage.specs.declared.Event.{Event}
-use Rattle.stage.specs.declared.Event.TheVariants as happens
 use Rattle.page.specs.Page.{dump, none, unread}
 use Rattle.ledger.specs.Writing.{started}
 use Rattle.stage.specs.Stage.{Scene, scene, Done, done, told}
@@ -46,26 +44,7 @@ played number (Some (Packet n)) bytes s = told (code "k") (receive (take n bytes
 played number (Some Restart) bytes s = told (code "x") restart s
 played number (Some Dump) bytes s = done s (shown_of s.there s.arrays.registers (password_of s.arrays.numbers))
 
--- The event that a line is, for the code; where it is none, a restart that nobody asks for.
-unfoldable pub event_of : Line → Event
-event_of Pass = happens.Restart
-event_of (Image n) = happens.Restart
-event_of (Room n) = happens.Restart
-event_of (Press n) = happens.Press n
-event_of (Release n) = happens.Release n
-event_of (Ticks n) = happens.Restart
-event_of (Packet n) = happens.Packet n
-event_of Restart = happens.Restart
-event_of Dump = happens.Restart
-
 -- How many ticks a line asks of the switch, where there is one.
 unfoldable pub ticks_of : Option Line → Bool → ℕ
 ticks_of (Some (Ticks n)) there = if there then n else 0
 ticks_of _ there = 0
-
--- Two rows are equal, byte for byte: ticks with equal rows are written as one run.
-unfoldable pub same : List ℕ → List ℕ → Bool
-same [] [] = true
-same [] (byte ∷ rest) = false
-same (byte ∷ rest) [] = false
-same (byte ∷ rest) (byte' ∷ rest') = eqb byte byte' && same rest rest'
