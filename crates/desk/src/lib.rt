@@ -40,13 +40,13 @@ pub fn play<const N: usize, const P: usize>(
     }
 }
 
-// How many ticks a line asks of the switch that is there.
+// How many ticks a line asks of a switch, if there is one.
 #[tactic(auto, unfolding(crate::specs::Playing::ticks_of))]
-pub fn ticks<const N: usize>(line: Option<Line>, desk: &Desk<N>) -> u32
-    ensures { result ≡ ticks_of line desk.now.there }
+pub fn ticks(line: Option<Line>, there: bool) -> u32
+    ensures { result ≡ ticks_of line there }
 {
     match line {
-        Some(Line::Ticks(n)) if desk.there => n,
+        Some(Line::Ticks(n)) if there => n,
         _ => 0,
     }
 }

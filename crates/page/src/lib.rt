@@ -6,6 +6,7 @@ ghost use Rattle.page.specs.Page.{page_of, puts, word, digits, hex_digit, hex_of
 
 use std::marker::Model;
 
+#[derive(Drop)]
 pub struct Page<const N: usize> {
     bytes: [u8; N],
     at: usize,

@@ -16,6 +16,7 @@ use state::{COUNTERS, NUMBERS};
 use std::marker::Model;
 
 // Whether there is a switch, what it is kept in, and the buffer, with how many of its bytes are lent to it.
+#[derive(Drop)]
 pub struct Desk<const N: usize> {
     // Stays as it is: no Option, since `begun` (desk) leaves every array as it was where a start is refused.
     pub there: bool,
