@@ -190,7 +190,7 @@ impl Script {
         run.ticks = 1;
     }
 
-    // The line of a run, where there is one.
+    // The line of a run, if it has a tick.
     fn close(&mut self, run: &Run) {
         if run.ticks != 0 {
             self.page.run(run.ticks, run.row.written());

@@ -111,6 +111,7 @@ impl<const N: usize> Page<N> {
     }
 
     // It calls itself once a digit.
+    // Stays as it is: by `write!` every writer would throw a Result away, though a page never fails.
     pub fn decimal(&mut self, n: u64)
         ensures { self.new ≡ puts (digits n) self.old }
     {

@@ -63,7 +63,7 @@ abbrev pub letter_of : Event → ℕ
 letter_of (happens.Press contact) = code "p"
 letter_of (happens.Release contact) = code "r"
 letter_of happens.Tick = code "t"
-letter_of (happens.Packet n) = code "k"
+letter_of (happens.Packet bytes) = code "k"
 letter_of happens.Restart = code "x"
 
 -- What such an event is to the switch.
