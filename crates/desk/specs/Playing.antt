@@ -1,6 +1,6 @@
 -- What a line of a script does to the switch on the desk, and what is written of it (docs/SCRIPT.md).
 use Prim.Native.Char.{code}
-use Rattle.std.specs.Prelude.{ℕ, Bool, true, false, not, ◌&&◌, List, [], ◌∷◌, eqb, take, replicate, if◌then◌else◌}
+use Rattle.std.specs.Prelude.{ℕ, Bool, not, List, [], Option, None, Some, eqb, take, replicate, if◌then◌else◌}
 use Rattle.vault.specs.declared.Password.{Password}
 use Rattle.registers.specs.Registers.{image_of}
 use Rattle.state.specs.State.{counter_count, number_count, password_of}
@@ -8,9 +8,7 @@ use Rattle.panel.specs.Panel.{byte_count}
 use Rattle.switch.specs.Switch.{Arrays, arrays, kept_in, press, release, receive, restart}
 use Rattle.switch.specs.Respond.{whole, start_answer, started_from}
 use Rattle.line.specs.declared.Line.{Line}
-use Rattle.line.specs.declared.Line.TheVariants.{Pass, Unread, Image, Room, Press, Release, Ticks, Packet, Restart, Dump}
-use Rattle.stage.specs.declared.Event.{Event}
-use Rattle.stage.specs.declared.Event.TheVariants as happens
+use Rattle.line.specs.declared.Line.TheVariants.{Pass, Image, Room, Press, Release, Ticks, Packet, Restart, Dump}
 use Rattle.page.specs.Page.{dump, none, unread}
 use Rattle.ledger.specs.Writing.{started}
 use Rattle.stage.specs.Stage.{Scene, scene, Done, done, told}
@@ -32,48 +30,21 @@ shown_of there registers password = if not there then none (code "d") else dump 
 unfoldable pub awaited : ℕ → Bool → List ℕ
 awaited ticks there = if there then [] else if eqb ticks 0 then [] else none (code "t")
 
--- A line, by its number in the script and with the bytes that its hex stands for. Ticks are run one by one: each is `happened row tick`.
-unfoldable pub played : ℕ → Line → List ℕ → Scene → Done
-played number Pass bytes s = done s []
-played number Unread bytes s = done s (unread number)
-played number (Image n) bytes s = begun (take n bytes) s
-played number (Room n) bytes s = done (scene s.there s.arrays n s.buffer) []
-played number (Press n) bytes s = told (code "p") (press n) s
-played number (Release n) bytes s = told (code "r") (release n) s
-played number (Ticks n) bytes s = done s (awaited n s.there)
-played number (Packet n) bytes s = told (code "k") (receive (take n bytes)) s
-played number Restart bytes s = told (code "x") restart s
-played number Dump bytes s = done s (shown_of s.there s.arrays.registers (password_of s.arrays.numbers))
-
--- The event that a line is, for the code; where it is none, a restart that nobody asks for.
-unfoldable pub event_of : Line → Event
-event_of Pass = happens.Restart
-event_of Unread = happens.Restart
-event_of (Image n) = happens.Restart
-event_of (Room n) = happens.Restart
-event_of (Press n) = happens.Press n
-event_of (Release n) = happens.Release n
-event_of (Ticks n) = happens.Restart
-event_of (Packet n) = happens.Packet n
-event_of Restart = happens.Restart
-event_of Dump = happens.Restart
+-- A line, by its number in the script and with the bytes that its hex stands for; none where it does not read. Ticks are run one by one:
+-- each is `happened row tick`.
+unfoldable pub played : ℕ → Option Line → List ℕ → Scene → Done
+played number None bytes s = done s (unread number)
+played number (Some Pass) bytes s = done s []
+played number (Some (Image n)) bytes s = begun (take n bytes) s
+played number (Some (Room n)) bytes s = done (scene s.there s.arrays n s.buffer) []
+played number (Some (Press n)) bytes s = told (code "p") (press n) s
+played number (Some (Release n)) bytes s = told (code "r") (release n) s
+played number (Some (Ticks n)) bytes s = done s (awaited n s.there)
+played number (Some (Packet n)) bytes s = told (code "k") (receive (take n bytes)) s
+played number (Some Restart) bytes s = told (code "x") restart s
+played number (Some Dump) bytes s = done s (shown_of s.there s.arrays.registers (password_of s.arrays.numbers))
 
 -- How many ticks a line asks of the switch, where there is one.
-unfoldable pub ticks_of : Line → Bool → ℕ
-ticks_of Pass there = 0
-ticks_of Unread there = 0
-ticks_of (Image n) there = 0
-ticks_of (Room n) there = 0
-ticks_of (Press n) there = 0
-ticks_of (Release n) there = 0
-ticks_of (Ticks n) there = if there then n else 0
-ticks_of (Packet n) there = 0
-ticks_of Restart there = 0
-ticks_of Dump there = 0
-
--- Two rows are equal, byte for byte: ticks with equal rows are written as one run.
-unfoldable pub same : List ℕ → List ℕ → Bool
-same [] [] = true
-same [] (byte ∷ rest) = false
-same (byte ∷ rest) [] = false
-same (byte ∷ rest) (byte' ∷ rest') = eqb byte byte' && same rest rest'
+unfoldable pub ticks_of : Option Line → Bool → ℕ
+ticks_of (Some (Ticks n)) there = if there then n else 0
+ticks_of _ there = 0

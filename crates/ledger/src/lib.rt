@@ -1,152 +1,139 @@
 // What is written of a start and of an event, on a page.
-#![tactic(auto)]
+#![tactic(auto, using(crate::proofs::Writing::step_by_step), unfolding(page::specs::Page::puts, page::specs::Page::spaced, page::specs::Page::line, crate::specs::Writing::state, crate::specs::Writing::counts, crate::specs::Writing::row, crate::specs::Writing::started, crate::specs::Writing::packets, crate::specs::Writing::joined, crate::specs::Writing::more, crate::specs::Writing::outside, crate::specs::Writing::untouched, crate::specs::Writing::spilt))]
 
-ghost use Rattle.std.specs.Prelude.{◌≡◌, ◌≤◌, length};
-ghost use Rattle.model.specs.Model.{paddle_count};
-ghost use Rattle.page.specs.Page.{page_of, puts, spaced};
+ghost use Rattle.std.specs.Prelude.{◌≡◌};
+ghost use Rattle.page.specs.Page.{puts};
 ghost use Rattle.ledger.specs.Writing.{colour_word, mode_word, state, joined, packets, outside, untouched, spilt, counts, row, started, answered};
 
 use answers::Answer;
 use lamp::Colour;
-use model::{PADDLES, PLACE, ROOM};
+use model::PLACE;
 use outbox::Sent;
-use page::{behind, decimal, front, hex, listed, open, put, spaced, text};
+use page::{Page, behind, front};
 use vault::Mode;
 
 // What the buffer is filled with before every event.
 pub const FILL: u8 = 0xAA;
 
 // The answer to a start.
-pub fn started(page: &mut [u8], at: usize, answer: Answer) -> usize
-    ensures { page_of page.new result ≡ puts (started answer) (page_of page.old at) }
+pub fn started<const N: usize>(page: &mut Page<N>, answer: Answer)
+    ensures { page.new ≡ puts (started answer) page.old }
 {
-    let number = answer.number;
-    let letter = open(page, at, b'i');
-    let numbered = decimal(page, letter, number as u64);
-    if number == 0 {
-        let shown = state(page, numbered, answer);
-        return put(page, shown, b'\n');
+    page.open(b'i');
+    page.decimal(answer.number as u64);
+    if answer.number == 0 {
+        state(page, answer);
     }
-    put(page, numbered, b'\n')
+    page.put(b'\n');
 }
 
 // The answer to an event, by the letter of its line.
-pub fn answered(page: &mut [u8], at: usize, letter: u8, answer: Answer, out: &[u8]) -> usize
-    ensures { page_of page.new result ≡ puts (answered letter answer out.now) (page_of page.old at) }
+pub fn answered<const N: usize>(page: &mut Page<N>, letter: u8, answer: Answer, out: &[u8])
+    ensures { page.new ≡ puts (answered letter answer out.now) page.old }
 {
-    let opened = open(page, at, letter);
-    let said = row(page, opened, answer, out);
-    put(page, said, b'\n')
+    page.open(letter);
+    row(page, answer, out);
+    page.put(b'\n');
 }
 
 // The answer to an event, from its number on and without the line's end.
-pub fn row(page: &mut [u8], at: usize, answer: Answer, out: &[u8]) -> usize
-    ensures { page_of page.new result ≡ puts (row answer out.now) (page_of page.old at) }
+pub fn row<const N: usize>(page: &mut Page<N>, answer: Answer, out: &[u8])
+    ensures { page.new ≡ puts (row answer out.now) page.old }
 {
-    let sent = answer.sent;
-    let counted = counts(page, at, answer.number, sent);
-    let shown = state(page, counted, answer);
-    let gap = put(page, shown, b' ');
-    let listed = packets(page, gap, sent, out);
-    spilt(page, listed, sent, out)
+    counts(page, answer.number, answer.sent);
+    state(page, answer);
+    page.put(b' ');
+    packets(page, answer.sent, out);
+    spilt(page, answer.sent, out);
 }
 
 // The number, and of the packets the count and each length.
-fn counts(page: &mut [u8], at: usize, number: u8, sent: Sent) -> usize
-    ensures { page_of page.new result ≡ puts (counts number sent) (page_of page.old at) }
+fn counts<const N: usize>(page: &mut Page<N>, number: u8, sent: Sent)
+    ensures { page.new ≡ puts (counts number sent) page.old }
 {
-    let lengths = sent.lengths;
-    let numbered = decimal(page, at, number as u64);
-    let counted = spaced(page, numbered, sent.count as u64);
-    listed(page, counted, &lengths)
+    page.decimal(number as u64);
+    page.spaced(sent.count as u64);
+    page.listed(&sent.lengths);
 }
 
 // Level, output, colour and mode.
-fn state(page: &mut [u8], at: usize, answer: Answer) -> usize
-    ensures { page_of page.new result ≡ puts (state answer) (page_of page.old at) }
+fn state<const N: usize>(page: &mut Page<N>, answer: Answer)
+    ensures { page.new ≡ puts (state answer) page.old }
 {
-    let colour = answer.colour;
-    let mode = answer.mode;
-    let level = spaced(page, at, answer.level.0 as u64);
-    let output = spaced(page, level, answer.output.0 as u64);
-    let coloured = colour_word(page, output, colour);
-    mode_word(page, coloured, mode)
+    page.spaced(answer.level.0 as u64);
+    page.spaced(answer.output.0 as u64);
+    page.put(b' ');
+    page.text(colour_word(answer.colour));
+    page.put(b' ');
+    page.text(mode_word(answer.mode));
 }
 
-fn colour_word(page: &mut [u8], at: usize, colour: Colour) -> usize
-    ensures { page_of page.new result ≡ puts (spaced (colour_word colour)) (page_of page.old at) }
+fn colour_word(colour: Colour) -> &'static [u8]
+    ensures { result.now ≡ colour_word colour }
 {
     match colour {
-        Colour::Black => text(page, at, b" black"),
-        Colour::Red => text(page, at, b" red"),
-        Colour::Green => text(page, at, b" green"),
-        Colour::Orange => text(page, at, b" orange"),
+        Colour::Black => b"black",
+        Colour::Red => b"red",
+        Colour::Green => b"green",
+        Colour::Orange => b"orange",
     }
 }
 
-fn mode_word(page: &mut [u8], at: usize, mode: Mode) -> usize
-    ensures { page_of page.new result ≡ puts (spaced (mode_word mode)) (page_of page.old at) }
+fn mode_word(mode: Mode) -> &'static [u8]
+    ensures { result.now ≡ mode_word mode }
 {
     match mode {
-        Mode::Normal => text(page, at, b" normal"),
-        Mode::Setup => text(page, at, b" setup"),
-        Mode::Factory => text(page, at, b" factory"),
+        Mode::Normal => b"normal",
+        Mode::Setup => b"setup",
+        Mode::Factory => b"factory",
     }
 }
 
 // As many packets as were sent.
-fn packets(page: &mut [u8], at: usize, sent: Sent, out: &[u8]) -> usize
-    ensures { page_of page.new result ≡ puts (packets sent out.now) (page_of page.old at) }
+fn packets<const N: usize>(page: &mut Page<N>, sent: Sent, out: &[u8])
+    ensures { page.new ≡ puts (packets sent out.now) page.old }
 {
-    let lengths = sent.lengths;
-    joined(page, at, front(&lengths, sent.count as usize), out)
+    joined(page, front(&sent.lengths, sent.count as usize), out);
 }
 
 // The packets that lie in the buffer, each in its place, with a comma between them.
-fn joined(page: &mut [u8], at: usize, sizes: &[u8], out: &[u8]) -> usize
-    requires { length sizes.now ≤ paddle_count }
-    ensures { page_of page.new result ≡ puts (joined sizes.now out.now) (page_of page.old at) }
+fn joined<const N: usize>(page: &mut Page<N>, sizes: &[u8], out: &[u8])
+    ensures { page.new ≡ puts (joined sizes.now out.now) page.old }
 {
-    if sizes.len() == 0 {
-        return put(page, at, b'-');
+    let Some((first, others)) = sizes.split_first() else {
+        page.put(b'-');
+        return;
+    };
+    page.hex(front(out, *first as usize));
+    let mut place = out;
+    for size in others {
+        place = behind(place, PLACE);
+        page.put(b',');
+        page.hex(front(place, *size as usize));
     }
-    let first = sizes[0];
-    let mut next = hex(page, at, front(out, first as usize));
-    let mut i = 1;
-    while i < sizes.len() {
-        let size = sizes[i];
-        let comma = put(page, next, b',');
-        let place = behind(out, i * PLACE);
-        next = hex(page, comma, front(place, size as usize));
-        i += 1;
-    }
-    next
 }
 
-fn spilt(page: &mut [u8], at: usize, sent: Sent, out: &[u8]) -> usize
-    ensures { page_of page.new result ≡ puts (spilt sent out.now) (page_of page.old at) }
+fn spilt<const N: usize>(page: &mut Page<N>, sent: Sent, out: &[u8])
+    ensures { page.new ≡ puts (spilt sent out.now) page.old }
 {
-    if kept(sent, out) {
-        return at;
+    if !kept(sent, out) {
+        page.text(b" spilt");
     }
-    text(page, at, b" spilt")
 }
 
 // Whether all bytes outside the packets are as they were: in each place those behind its packet, and those behind the places.
 fn kept(sent: Sent, out: &[u8]) -> bool
     ensures { result ≡ untouched (outside sent.lengths out.now) }
 {
-    let lengths = sent.lengths;
-    let mut i = 0;
-    while i < PADDLES {
-        let place = front(behind(out, i * PLACE), PLACE);
-        let length = lengths[i] as usize;
-        if !untouched(behind(place, length)) {
+    let mut rest = out;
+    for length in sent.lengths {
+        let place = front(rest, PLACE);
+        if !untouched(behind(place, length as usize)) {
             return false;
         }
-        i += 1;
+        rest = behind(rest, PLACE);
     }
-    untouched(behind(out, ROOM))
+    untouched(rest)
 }
 
 // It looks at every byte and has no way out before the end: a large buffer is looked through many bytes at a time.
@@ -154,10 +141,8 @@ fn untouched(bytes: &[u8]) -> bool
     ensures { result ≡ untouched bytes.now }
 {
     let mut same = true;
-    let mut i = 0;
-    while i < bytes.len() {
-        same = same & (bytes[i] == FILL);
-        i += 1;
+    for byte in bytes {
+        same &= *byte == FILL;
     }
     same
 }

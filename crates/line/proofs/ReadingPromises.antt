@@ -1,34 +1,28 @@
 -- The promises of reading, shown.
-use Prim.Native.Nat.{ℕ, suc, ◌+◌, ◌/◌, ◌≤◌, ◌<◌}
+use Prim.Native.Nat.{ℕ, suc, ◌/◌, ◌≤◌}
 use native.Mathlib.Omega.{arith}
-use mathlib.Core.Bool.{not, and-eq-true_iff}
+use mathlib.Core.Bool.{not}
 use mathlib.Core.List.{List, [], ◌∷◌, map}
 use mathlib.Core.Path.{◌≡◌, refl, sym, ap, subst, ◌∙◌}
-use borrow.Author.Tests.{le-leb, lt-ltb, le-ltb, ne_eqb, leb-true, ltb-true, ltb-false, eqb-true, not-false}
-use lib.Dec.{ltb, leb, eqb}
+use borrow.Author.Tests.{ne_eqb, ltb-false, eqb-true, not-false}
+use lib.Dec.{ltb, eqb}
 use lib.ListN.{length, get_or, drop, length-append, length-drop, length-map}
 use lib.Seq.{take_at}
+use Rattle.std.specs.Prelude.{Option, None, Some}
+use Rattle.std.proofs.lemmas.Bool.Decides.{nat_tests}
 use Rattle.words.proofs.Laws.{both, cases, one_outcome}
 use Rattle.line.specs.declared.Line.{Line}
-use Rattle.line.specs.declared.Line.TheVariants.{Pass, Unread, Image, Room, Press, Release, Ticks, Packet, Restart, Dump}
-use Rattle.line.specs.declared.Number.{Number}
-use Rattle.line.specs.declared.Number.TheVariants.{Is, Not}
-use Rattle.line.specs.Reading.{bare, gap, blank, between, digit_of, digits, value, within, number_of, hex, hex_of, dash, image_of, packet_of, limit_of, numbered, counted, told, alone, said, line_of, bytes_of, laid, Reads}
+use Rattle.line.specs.declared.Line.TheVariants.{Image, Room, Packet}
+use Rattle.line.specs.Reading.{bare, blank, digit_of, digits, value, within, number_of, hex, hex_of, dash, image_of, packet_of, limit_of, numbered, counted, told, alone, said, line_of, laid, Reads}
 use Rattle.line.specs.ReadingPromises.{Held, Sizes, OneOutcome, lowered, CaseAlike, LeadingZero, Lines}
 use Rattle.line.proofs.Reading.{hex_length, hex_reads, dash_none, number_within}
 
 -- A line's sizes are right: as many bytes as its hex has, room for them, and each size within its range.
-abbrev Sized : ℕ → List ℕ → Line → Type 0
-Sized room argument Pass = Unit {0}
-Sized room argument Unread = Unit {0}
-Sized room argument (Image n) = (n ≤ room) × (length (hex_of argument) ≡ n)
-Sized room argument (Room n) = n ≤ 4096
-Sized room argument (Press n) = Unit {0}
-Sized room argument (Release n) = Unit {0}
-Sized room argument (Ticks n) = Unit {0}
-Sized room argument (Packet n) = (n ≤ 256) × ((n ≤ room) × (length (hex_of argument) ≡ n))
-Sized room argument Restart = Unit {0}
-Sized room argument Dump = Unit {0}
+abbrev Sized : ℕ → List ℕ → Option Line → Type 0
+Sized room argument (Some (Image n)) = (n ≤ room) × (length (hex_of argument) ≡ n)
+Sized room argument (Some (Room n)) = n ≤ 4096
+Sized room argument (Some (Packet n)) = (n ≤ 256) × ((n ≤ room) × (length (hex_of argument) ≡ n))
+Sized room argument _ = Unit {0}
 
 module _ (room : ℕ) (argument : List ℕ) where
   -- An image's.
@@ -50,15 +44,15 @@ module _ (room : ℕ) (argument : List ℕ) where
 
   -- A letter's with a number.
   counted_sized : (letter : ℕ) → Sized room argument (counted letter argument)
-  unfolding counted numbered limit_of
+  unfolding counted
   counted_sized letter = go (number_of (limit_of letter) argument) refl
     where
-      P : Line → Type 0
+      P : Option Line → Type 0
       P = Sized room argument
 
-      go : (number : Number) → number_of (limit_of letter) argument ≡ number → P (numbered letter number)
-      go Not e = tt
-      go (Is n) e =
+      go : (number : Option ℕ) → number_of (limit_of letter) argument ≡ number → P (numbered letter number)
+      go None e = tt
+      go (Some n) e =
           cases P (eqb letter 0x62)
           (λ b. number_within 4096 n argument (rw (eqb-true letter 0x62 b) at e))
           (λ b. both P (eqb letter 0x70) tt (both P (eqb letter 0x72) tt (both P (eqb letter 0x74) tt tt)))
@@ -83,14 +77,13 @@ line_sized room text =
     (both P (not (eqb (get_or line 1 0) 0x20)) tt (told_sized room (drop 2 line) (get_or line 0 0))))))
 
 -- The sizes of a line that is read.
-read_sized : (text before after : List ℕ) (line : Line) → Reads text before line after → Sized (length before) (drop 2 (bare text)) line
+read_sized : (text before after : List ℕ) (line : Option Line) → Reads text before line after → Sized (length before) (drop 2 (bare text)) line
 read_sized text before after line r =
-    subst (λ (l : Line). Sized (length before) (drop 2 (bare text)) l) (sym r.answered) (line_sized (length before) text)
+    subst (λ (l : Option Line). Sized (length before) (drop 2 (bare text)) l) (sym r.answered) (line_sized (length before) text)
 
 -- Bytes for which there is room, laid, are the first of the lent ones.
 held : (text before after : List ℕ) (n : ℕ) → n ≤ length before → length (hex_of (drop 2 (bare text))) ≡ n
     → after ≡ laid (hex_of (drop 2 (bare text))) before → Held text n after
-unfolding laid
 held text before after n room size laid =
     let front = hex_of (drop 2 (bare text)) in
     record {
@@ -100,12 +93,11 @@ held text before after n room size laid =
 
 -- What a caller may count on.
 pub sizes : Sizes
-unfolding bytes_of
 sizes =
     record {
-      image = λ text before after n r. let s = read_sized text before after (Image n) r in held text before after n s.0 s.1 r.bytes;
-      packet = λ text before after n r. let s = read_sized text before after (Packet n) r in (held text before after n s.1.0 s.1.1 r.bytes, s.0);
-      buffer = λ text before after n r. read_sized text before after (Room n) r;
+      image = λ text before after n r. let s = read_sized text before after (Some (Image n)) r in held text before after n s.0 s.1 r.bytes;
+      packet = λ text before after n r. let s = read_sized text before after (Some (Packet n)) r in (held text before after n s.1.0 s.1.1 r.bytes, s.0);
+      buffer = λ text before after n r. read_sized text before after (Some (Room n)) r;
     }
 
 -- No two outcomes.
@@ -117,18 +109,10 @@ one_read text before after after' line line' x y =
 -- A digit is worth the same in lower case.
 digit_lowered : (byte : ℕ) → digit_of (lowered byte) ≡ digit_of byte
 unfolding digit_of lowered
-digit_lowered byte =
-    cases (λ (b : ℕ). digit_of b ≡ digit_of byte) (between 0x41 byte 0x46)
-    (λ t. let both = (and-eq-true_iff (leb 0x41 byte) (ltb byte 0x47)).0 t in
-    let low : 0x41 ≤ byte = leb-true 0x41 byte both.0 in
-    let high : byte < 0x47 = ltb-true byte 0x47 both.1 in
-    rw (le-leb 0x30 (byte + 0x20) (omega arith), le-ltb (byte + 0x20) 0x3A (omega arith), le-leb 0x41 (byte + 0x20) (omega arith), le-ltb (byte + 0x20) 0x47 (omega arith), le-leb 0x61 (byte + 0x20) (omega arith), lt-ltb (byte + 0x20) 0x67 (omega arith), le-leb 0x30 byte (omega arith), le-ltb byte 0x3A (omega arith), le-leb 0x41 byte (omega arith), lt-ltb byte 0x47 (omega arith))
-    (omega arith))
-    (λ t. refl)
+digit_lowered byte = grind (arith, nat_tests)
 
 -- So are digits, ..
 digits_lowered : (base : ℕ) (text : List ℕ) → digits base (map lowered text) ≡ digits base text
-unfolding digits
 digits_lowered base [] = refl
 digits_lowered base (byte ∷ rest) = rw (digit_lowered byte, digits_lowered base rest)
 
@@ -150,13 +134,13 @@ case_alike = record { reads = reads_lowered; bytes = bytes_lowered }
 
 -- A zero in front changes no number.
 pub leading_zero : LeadingZero
-unfolding number_of digits value digit_of
+unfolding number_of value digit_of
 leading_zero limit byte text =
     rw (ne_eqb (suc (suc (length text))) 0 (λ e. omega arith), ne_eqb (suc (length text)) 0 (λ e. omega arith))
 
 -- The lines, each computed.
 pub lines : Lines
-unfolding line_of bare said blank alone told image_of packet_of counted numbered limit_of number_of within value digits digit_of hex hex_of dash gap
+unfolding line_of bare said alone told image_of packet_of counted number_of within value digit_of hex hex_of
 lines =
     record {
       empty = refl;

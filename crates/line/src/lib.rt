@@ -1,10 +1,9 @@
 // A line of a script read: what it says, and the bytes that its hex stands for.
 #![tactic(auto)]
 
-ghost use Rattle.std.specs.Prelude.{◌≡◌, ◌≤◌, ◌/◌, true, length, drop};
-ghost use Rattle.line.specs.declared.Number.TheVariants.{Is};
-ghost use Rattle.line.specs.Reading.{bare, gap, blank, digit_of, digits, value, within, number_of, hex, hex_of, image_of, dash, packet_of};
-ghost use Rattle.line.specs.Reading.{limit_of, numbered, counted, told, alone, said, laid, Says, Reads};
+ghost use Rattle.std.specs.Prelude.{◌≡◌, ◌≤◌, ◌/◌, true, Some, length, drop};
+ghost use Rattle.line.specs.Reading.{bare, gap, blank, digits, number_of, hex, hex_of, image_of, packet_of};
+ghost use Rattle.line.specs.Reading.{counted, told, alone, said, laid, Says, Reads};
 
 // The longest line, its CR counted.
 const LONGEST: usize = 2048;
@@ -17,26 +16,12 @@ const CONTACT: u32 = 255;
 
 const ROOM: u32 = 4096;
 
-const TICKS: u32 = 4294967295;
+const TICKS: u32 = u32::MAX;
 
-const TAB: u8 = b'\t';
-
-const CR: u8 = b'\r';
-
-const SPACE: u8 = b' ';
-
-const COMMENT: u8 = b'#';
-
-const DASH: u8 = b'-';
-
-// What `digit` answers for a byte that is no digit.
-const NONE: u8 = 255;
-
-// A line of a script. `Pass` is passed over, `Unread` does not read; `Image` and `Packet` say how many bytes they have.
+// A line of a script that reads. `Pass` is passed over; `Image` and `Packet` say how many bytes they have.
 #[derive(Clone, Copy)]
 pub enum Line {
     Pass,
-    Unread,
     Image(usize),
     Room(u16),
     Press(u8),
@@ -47,91 +32,67 @@ pub enum Line {
     Dump,
 }
 
-// A number within its range, or none.
-#[derive(Clone, Copy)]
-enum Number {
-    Is(u32),
-    Not,
-}
-
-// The line, and the bytes that its hex stands for in front of the lent ones. `text` is without its newline, its CR still on it.
-pub fn read(text: &[u8], bytes: &mut [u8]) -> Line
+// The line, if it reads, and the bytes that its hex stands for in front of the lent ones. `text` is without its newline, its CR
+// still on it.
+#[tactic(auto, unfolding(crate::specs::Reading::line_of))]
+pub fn read(text: &[u8], bytes: &mut [u8]) -> Option<Line>
     ensures { Reads text.now bytes.old result bytes.new }
 {
     if LONGEST < text.len() {
-        return Line::Unread;
+        return None;
     }
     said(bare(text), bytes)
 }
 
 // One CR just before the line's end is passed over.
+#[tactic(auto, unfolding(crate::specs::Reading::bare))]
 fn bare(text: &[u8]) -> &[u8]
     ensures { result.now ≡ bare text.now }
 {
-    let size = text.len();
-    if size == 0 {
-        return text;
+    match text {
+        [line @ .., b'\r'] => line,
+        _ => text,
     }
-    let last = size - 1;
-    if text[last] == CR {
-        return &text[..last];
-    }
-    text
 }
 
 // A line without its CR.
-fn said(line: &[u8], bytes: &mut [u8]) -> Line
+#[tactic(auto, using(crate::proofs::Reading::alone_bytes), unfolding(crate::specs::Reading::said))]
+fn said(line: &[u8], bytes: &mut [u8]) -> Option<Line>
     ensures { Says (said (length bytes.old) line.now) (drop 2 line.now) bytes.old result bytes.new }
 {
     if blank(line) {
-        return Line::Pass;
+        return Some(Line::Pass);
     }
-    let letter = line[0];
-    if letter == COMMENT {
-        return Line::Pass;
+    match line {
+        [b'#', ..] => Some(Line::Pass),
+        [letter] => alone(*letter),
+        [letter, b' ', argument @ ..] => told(*letter, argument, bytes),
+        _ => None,
     }
-    if line.len() < 2 {
-        return alone(letter);
-    }
-    let space = line[1];
-    if space != SPACE {
-        return Line::Unread;
-    }
-    told(letter, &line[2..], bytes)
 }
 
+// Nothing but spaces and tabs.
 fn blank(text: &[u8]) -> bool
     ensures { result ≡ blank text.now }
 {
-    let mut i = 0;
-    while i < text.len() {
-        if !gap(text[i]) {
-            return false;
-        }
-        i += 1;
-    }
-    true
-}
-
-fn gap(byte: u8) -> bool
-    ensures { result ≡ gap byte }
-{
-    byte == SPACE || byte == TAB
+    text.iter().all(|byte| matches!(byte, b' ' | b'\t'))
 }
 
 // A letter that stands alone.
-fn alone(letter: u8) -> Line
+#[tactic(auto, unfolding(crate::specs::Reading::alone))]
+fn alone(letter: u8) -> Option<Line>
     ensures { result ≡ alone letter }
 {
     match letter {
-        b'x' => Line::Restart,
-        b'd' => Line::Dump,
-        _ => Line::Unread,
+        b'x' => Some(Line::Restart),
+        b'd' => Some(Line::Dump),
+        _ => None,
     }
 }
 
 // A letter and its argument.
-fn told(letter: u8, argument: &[u8], bytes: &mut [u8]) -> Line
+#[tactic(auto, using(crate::proofs::Reading::counted_bytes), unfolding(crate::specs::Reading::told))]
+fn told(letter: u8, argument: &[u8], bytes: &mut [u8]) -> Option<Line>
     ensures { Says (told (length bytes.old) letter argument.now) argument.now bytes.old result bytes.new }
 {
     match letter {
@@ -141,163 +102,84 @@ fn told(letter: u8, argument: &[u8], bytes: &mut [u8]) -> Line
     }
 }
 
-fn image(argument: &[u8], bytes: &mut [u8]) -> Line
+#[tactic(auto, using(crate::proofs::Reading::hex_reads), unfolding(crate::specs::Reading::image_of))]
+fn image(argument: &[u8], bytes: &mut [u8]) -> Option<Line>
     ensures { Says (image_of (length bytes.old) argument.now) argument.now bytes.old result bytes.new }
 {
     if !hex(argument, bytes.len()) {
-        return Line::Unread;
+        return None;
     }
     lay(argument, bytes);
-    Line::Image(argument.len() / 2)
-}
-
-fn packet(argument: &[u8], bytes: &mut [u8]) -> Line
-    ensures { Says (packet_of (length bytes.old) argument.now) argument.now bytes.old result bytes.new }
-{
-    if dash(argument) {
-        return Line::Packet(0);
-    }
-    if !hex(argument, bytes.len()) {
-        return Line::Unread;
-    }
-    let count = argument.len() / 2;
-    if PACKET < count {
-        return Line::Unread;
-    }
-    lay(argument, bytes);
-    Line::Packet(count)
+    Some(Line::Image(argument.len() / 2))
 }
 
 // `-` stands for no bytes.
-fn dash(text: &[u8]) -> bool
-    ensures { result ≡ dash text.now }
+#[tactic(auto, using(crate::proofs::Reading::hex_reads, crate::proofs::Reading::dash_none), unfolding(crate::specs::Reading::packet_of))]
+fn packet(argument: &[u8], bytes: &mut [u8]) -> Option<Line>
+    ensures { Says (packet_of (length bytes.old) argument.now) argument.now bytes.old result bytes.new }
 {
-    if text.len() != 1 {
-        return false;
+    if matches!(argument, [b'-']) {
+        return Some(Line::Packet(0));
     }
-    text[0] == DASH
+    let count = argument.len() / 2;
+    if !hex(argument, bytes.len()) || PACKET < count {
+        return None;
+    }
+    lay(argument, bytes);
+    Some(Line::Packet(count))
 }
 
 // One or more pairs of hex digits, with room for the bytes that they stand for.
+#[tactic(auto, unfolding(crate::specs::Reading::hex))]
 fn hex(text: &[u8], room: usize) -> bool
     ensures { result ≡ hex room text.now }
 {
     let size = text.len();
-    if size < 1 {
-        return false;
-    }
-    if size % 2 != 0 {
-        return false;
-    }
-    if room < size / 2 {
-        return false;
-    }
-    digits(text, 16)
+    1 <= size && size % 2 == 0 && size / 2 <= room && text.iter().all(u8::is_ascii_hexdigit)
 }
 
 // The bytes that the pairs stand for, at the front of the lent ones.
+#[tactic(auto, using(crate::proofs::Reading::lay_steps))]
 fn lay(text: &[u8], bytes: &mut [u8])
     requires { (digits 16 text.now ≡ true) × (length text.now / 2 ≤ length bytes.old) }
     ensures { bytes.new ≡ laid (hex_of text.now) bytes.old }
 {
-    let count = text.len() / 2;
-    let mut i = 0;
-    while i < count {
-        let high = digit(text[2 * i]);
-        let low = digit(text[2 * i + 1]);
-        bytes[i] = 16 * high + low;
-        i += 1;
+    for (i, pair) in text.chunks_exact(2).enumerate() {
+        let high = char::from(pair[0]).to_digit(16).unwrap();
+        let low = char::from(pair[1]).to_digit(16).unwrap();
+        bytes[i] = (16 * high + low) as u8;
     }
 }
 
 // A letter with a number.
-fn counted(letter: u8, argument: &[u8]) -> Line
+#[tactic(auto, using(crate::proofs::Reading::number_within), unfolding(crate::specs::Reading::counted))]
+fn counted(letter: u8, argument: &[u8]) -> Option<Line>
     ensures { result ≡ counted letter argument.now }
 {
-    let number = decimal(argument, limit(letter));
-    let Number::Is(n) = number else {
-        return Line::Unread;
-    };
-    numbered(letter, n)
-}
-
-// The largest number that a letter takes.
-fn limit(letter: u8) -> u32
-    ensures { result ≡ limit_of letter }
-{
     match letter {
-        b'b' => ROOM,
-        b't' => TICKS,
-        _ => CONTACT,
+        b'b' => Some(Line::Room(decimal(argument, ROOM)? as u16)),
+        b'p' => Some(Line::Press(decimal(argument, CONTACT)? as u8)),
+        b'r' => Some(Line::Release(decimal(argument, CONTACT)? as u8)),
+        b't' => Some(Line::Ticks(decimal(argument, TICKS)?)),
+        _ => None,
     }
 }
 
-// A letter with its number, which is within the letter's range.
-fn numbered(letter: u8, n: u32) -> Line
-    requires { n ≤ limit_of letter }
-    ensures { result ≡ numbered letter (Is n) }
-{
-    match letter {
-        b'b' => Line::Room(n as u16),
-        b'p' => Line::Press(n as u8),
-        b'r' => Line::Release(n as u8),
-        b't' => Line::Ticks(n),
-        _ => Line::Unread,
-    }
-}
-
-// One or more decimal digits, with a value of at most `limit`.
-fn decimal(text: &[u8], limit: u32) -> Number
+// The number of one or more decimal digits, up to `limit`. A value above the limit never comes back to it.
+#[tactic(auto, using(crate::proofs::Reading::decimal_steps))]
+fn decimal(text: &[u8], limit: u32) -> Option<u32>
     ensures { result ≡ number_of limit text.now }
 {
-    if text.len() == 0 {
-        return Number::Not;
+    if text.is_empty() {
+        return None;
     }
-    if !digits(text, 10) {
-        return Number::Not;
-    }
-    value(text, limit)
-}
-
-// The value of decimal digits. One above the limit never comes back to it.
-fn value(text: &[u8], limit: u32) -> Number
-    ensures { result ≡ within limit (value 0 text.now) }
-{
-    let most = limit as u64;
-    let mut value: u64 = 0;
-    let mut i = 0;
-    while i < text.len() {
-        value = 10 * value + digit(text[i]) as u64;
-        if most < value {
-            return Number::Not;
+    let mut value = 0;
+    for byte in text {
+        let digit = char::from(*byte).to_digit(10)?;
+        value = 10 * value + u64::from(digit);
+        if u64::from(limit) < value {
+            return None;
         }
-        i += 1;
     }
-    let n = value as u32;
-    Number::Is(n)
-}
-
-// Every byte is a digit to the base.
-fn digits(text: &[u8], base: u8) -> bool
-    ensures { result ≡ digits base text.now }
-{
-    let mut i = 0;
-    while i < text.len() {
-        if base <= digit(text[i]) {
-            return false;
-        }
-        i += 1;
-    }
-    true
-}
-
-fn digit(byte: u8) -> u8
-    ensures { result ≡ digit_of byte }
-{
-    match byte {
-        b'0'..=b'9' => byte - b'0',
-        b'A'..=b'F' => byte - b'A' + 10,
-        b'a'..=b'f' => byte - b'a' + 10,
-        _ => NONE,
-    }
+    Some(value as u32)
 }

@@ -3,13 +3,14 @@ use Prim.Native.Char.{code}
 use Prim.Native.Nat.{ℕ, zero, suc, ◌+◌, ◌*◌, ◌/◌, ◌%◌, ◌<◌, ◌≤◌, ◌^◌}
 use native.Mathlib.Numerals.{add-one}
 use native.Mathlib.Omega.{arith}
-use mathlib.Core.List.{List, [], ◌∷◌, ◌++◌}
+use mathlib.Core.List.{List, [], ◌∷◌, ◌++◌, append_assoc}
 use mathlib.Core.Path.{◌≡◌, refl, ◌∙◌}
 use borrow.Author.Tests.{lt-ltb, le-ltb}
-use lib.ListN.{length, get_or, take, drop, set, length-append, length-set}
-use lib.Seq.{drop-cons, sets, sets-eq}
+use lib.ListN.{length, take, drop, set, length-append, length-set}
+use lib.Seq.{sets, sets-eq}
+use Rattle.std.proofs.lemmas.Grind.{take_at_read}
 use Rattle.words.proofs.Laws.{two_ways}
-use Rattle.page.specs.Page.{Page, put, puts, digits_up_to, digits, hex_digit, hex_of, word, spaced, listed, line, page_of}
+use Rattle.page.specs.Page.{Page, put, puts, digits_up_to, digits, hex_of, listed, page_of}
 use native.Mathlib.Nat.{add-zero, pow-suc}
 
 -- A text and then another one is the second behind the first.
@@ -18,41 +19,16 @@ unfolding puts
 puts_append [] b p = refl
 puts_append (byte ∷ a) b p = puts_append a b (put byte p)
 
--- Two texts written one behind the other.
-pub after : (a b : List ℕ) (p q r : Page) → q ≡ puts a p → r ≡ puts b q → r ≡ puts (a ++ b) p
-after a b p q r first second = second ∙ rw (first, puts_append)
+-- Bytes in hex, and numbers behind spaces, one list behind the other.
+pub hex_append : (a b : List ℕ) → hex_of (a ++ b) ≡ hex_of a ++ hex_of b
+unfolding hex_of
+hex_append [] b = refl
+hex_append (byte ∷ a) b = rw (hex_append a b)
 
--- A line's opening, what it says, and its end.
-pub lined : (letter : ℕ) (text : List ℕ) (p q r s : Page)
-    → q ≡ puts (letter ∷ word " ") p
-    → r ≡ puts text q
-    → s ≡ puts (word "\n") r
-    → s ≡ puts (line letter text) p
-unfolding line
-lined letter text p q r s opened said ended = after _ _ p q s opened (after _ _ q r s said ended)
-
--- What is left of a text: its next byte, and what is left behind that.
-pub text_next : (bytes : List ℕ) (i : ℕ) (p q : Page) → i < length bytes → q ≡ puts (get_or bytes i 0 ∷ []) p
-    → puts (drop (i + 1) bytes) q ≡ puts (drop i bytes) p
-unfolding puts
-text_next bytes i p q h e = rw (e, add-one, drop-cons bytes i 0)
-
--- The same in hex: the next byte's two digits.
-pub hex_next : (bytes : List ℕ) (i high low : ℕ) (p q r : Page) → i < length bytes
-    → high ≡ hex_digit (get_or bytes i 0 / 16)
-    → q ≡ puts (high ∷ []) p
-    → low ≡ hex_digit (get_or bytes i 0 % 16)
-    → r ≡ puts (low ∷ []) q
-    → puts (hex_of (drop (i + 1) bytes)) r ≡ puts (hex_of (drop i bytes)) p
-unfolding puts hex_of
-hex_next bytes i high low p q r h high_is q-is low-is r-is =
-    rw (r-is, q-is, high_is, low-is, add-one, drop-cons bytes i 0)
-
--- The same for numbers, each behind a space.
-pub listed_next : (ns : List ℕ) (i : ℕ) (p q : Page) → i < length ns → q ≡ puts (spaced (digits (get_or ns i 0))) p
-    → puts (listed (drop (i + 1) ns)) q ≡ puts (listed (drop i ns)) p
+pub listed_append : (a b : List ℕ) → listed (a ++ b) ≡ listed a ++ listed b
 unfolding listed
-listed_next ns i p q h e = rw (drop-cons ns i 0 h, add-one, puts_append, e)
+listed_append [] b = refl
+listed_append (n ∷ a) b = rw (listed_append a b, append_assoc)
 
 -- How many digits there may be does not matter where there may be enough.
 enough : (m k n : ℕ) → n < m → n < k → digits_up_to m n ≡ digits_up_to k n
@@ -72,15 +48,8 @@ pub more_digits : (n : ℕ) → 10 ≤ n → digits n ≡ digits (n / 10) ++ (co
 unfolding digits digits_up_to
 more_digits n h = rw (le-ltb n 10 h, enough n (suc (n / 10)) (n / 10) (omega arith) (omega arith))
 
--- The two cases, as `decimal` writes them.
-pub wrote_one : (n : ℕ) (p q : Page) → n < 10 → q ≡ puts ((code "0" + n) ∷ []) p → q ≡ puts (digits n) p
-wrote_one n p q h e = rw (one_digit n h) e
-
-pub wrote_more : (n : ℕ) (p q r : Page) → 10 ≤ n
-    → q ≡ puts (digits (n / 10)) p
-    → r ≡ puts ((code "0" + n % 10) ∷ []) q
-    → r ≡ puts (digits n) p
-wrote_more n p q r h e f = rw (more_digits n h) (after _ _ p q r e f)
+-- The writers' proofs go by these: texts one behind the other, the next element of a list, a number's last digit.
+pub ruleset step_by_step = (puts_append, take_at_read, hex_append, listed_append, one_digit, more_digits)
 
 -- Where there is room, the bytes are stored one after the other.
 stored : (text bytes : List ℕ) (at : ℕ) → at + length text ≤ length bytes

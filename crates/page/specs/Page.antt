@@ -4,7 +4,7 @@ use Rattle.std.specs.Prelude.{ℕ, zero, suc, ◌+◌, ◌-◌, ◌/◌, ◌%◌
 use Prim.Native.Char.{code}
 use Prim.Native.String.{String, [] as stop, ◌∷◌ as ◌then◌}
 
--- A page: lent bytes, and the place where the next one goes.
+-- A page: its bytes, and the place where the next one goes.
 pub record Page : Type 0 where
   pub bytes : List ℕ
   pub at : ℕ

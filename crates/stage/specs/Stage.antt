@@ -3,12 +3,14 @@ use Prim.Native.Char.{code}
 use Rattle.std.specs.Prelude.{ℕ, Bool, false, not, List, ◌++◌, ◌≡◌, length, take, drop, replicate, if◌then◌else◌}
 use Rattle.model.specs.Model.{room}
 use Rattle.outbox.specs.Outbox.{placed}
+use Rattle.places.specs.Places.{size}
+use Rattle.state.specs.State.{counter_count, number_count}
+use Rattle.panel.specs.Panel.{byte_count}
 use Rattle.switch.specs.Switch.{Arrays, arrays, switch_in, kept_in, Deed, press, release, tick, receive, restart, event}
 use Rattle.switch.specs.Respond.{respond}
 use Rattle.answers.specs.declared.Answer.{Answer}
 use Rattle.stage.specs.declared.Event.{Event}
 use Rattle.stage.specs.declared.Event.TheVariants as happens
-use Rattle.stage.specs.declared.Desk.{Desk}
 use Rattle.page.specs.Page.{Page, puts, none}
 use Rattle.ledger.specs.Writing.{fill, answered}
 
@@ -22,10 +24,6 @@ pub record Scene : Type 0 where
 abbrev pub scene : Bool → Arrays → ℕ → List ℕ → Scene
 scene there arrays room buffer = record { there = there; arrays = arrays; room = room; buffer = buffer }
 
--- As the code holds it: the arrays and the buffer are lent, the rest goes by value.
-abbrev pub scene_of : Desk → List ℕ → List ℕ → List ℕ → List ℕ → List ℕ → Scene
-scene_of desk counters numbers paddles all buffer = scene desk.there (arrays counters numbers paddles all) desk.room buffer
-
 -- What a line does: the scene after it, and the text that is written.
 pub record Done : Type 0 where
   pub after : Scene
@@ -34,9 +32,9 @@ pub record Done : Type 0 where
 abbrev pub done : Scene → List ℕ → Done
 done after text = record { after = after; text = text }
 
--- The start of a script: no switch, and a buffer with just the room that an event asks for.
-abbrev pub empty_desk : Desk
-empty_desk = record { there = false; room = room }
+-- The start of a script: no switch, arrays of zeros, and of a buffer of n bytes just the room that an event asks for.
+abbrev pub empty_desk : ℕ → Scene
+empty_desk n = scene false (arrays (replicate counter_count 0) (replicate number_count 0) (replicate byte_count 0) (replicate size 0)) room (replicate n 0)
 
 -- Before every event each lent byte is made the same.
 abbrev pub filled : List ℕ → List ℕ
@@ -56,8 +54,8 @@ told letter deed s = if not s.there then done s (none letter) else happened (ans
 
 -- What every line promises: whether there is a switch, every counter, number, paddle's byte and register, the buffer's every byte, and the page
 -- are those of its meaning.
-pub record Plays (meant : Done) (page : Page) (desk : Desk) (counters numbers paddles all buffer : List ℕ) (page' : Page) : Type 0 where
-  pub after : scene_of desk counters numbers paddles all buffer ≡ meant.after
+pub record Plays (meant : Done) (scene' : Scene) (page page' : Page) : Type 0 where
+  pub after : scene' ≡ meant.after
   pub written : page' ≡ puts meant.text page
 
 -- The letter of an event, as the code has it.
@@ -65,13 +63,13 @@ abbrev pub letter_of : Event → ℕ
 letter_of (happens.Press contact) = code "p"
 letter_of (happens.Release contact) = code "r"
 letter_of happens.Tick = code "t"
-letter_of (happens.Packet n) = code "k"
+letter_of (happens.Packet bytes) = code "k"
 letter_of happens.Restart = code "x"
 
--- What such an event is to the switch; the bytes that a packet is the front of stand beside it.
-abbrev pub deed_of : Event → List ℕ → Deed
-deed_of (happens.Press contact) bytes = press contact
-deed_of (happens.Release contact) bytes = release contact
-deed_of happens.Tick bytes = tick
-deed_of (happens.Packet n) bytes = receive (take n bytes)
-deed_of happens.Restart bytes = restart
+-- What such an event is to the switch.
+abbrev pub deed_of : Event → Deed
+deed_of (happens.Press contact) = press contact
+deed_of (happens.Release contact) = release contact
+deed_of happens.Tick = tick
+deed_of (happens.Packet bytes) = receive bytes.now
+deed_of happens.Restart = restart

@@ -1,175 +1,143 @@
 // The switch on the desk: an event happens to it, and what it answers is written.
 #![tactic(auto)]
 
-ghost use Rattle.std.specs.Prelude.{◌≡◌, min};
+ghost use Rattle.std.specs.Prelude.{◌≡◌, List, ℕ, take};
 ghost use Rattle.switch.specs.Switch.{tick};
-ghost use Rattle.switch.specs.Respond.{Responds};
-ghost use Rattle.page.specs.Page.{page_of};
 ghost use Rattle.ledger.specs.Writing.{row};
-ghost use Rattle.stage.specs.Stage.{empty_desk, scene_of, filled, happened, told, Plays, letter_of, deed_of};
+ghost use Rattle.answers.specs.declared.Answer.{Answer};
+ghost use Rattle.stage.specs.Stage.{done, empty_desk, happened, told, Plays, letter_of, deed_of};
 
 use answers::Answer;
 use ledger::FILL;
 use model::ROOM;
-use page::front;
+use page::{Page, front};
 use panel::BYTES;
 use state::{COUNTERS, NUMBERS};
+use std::marker::Model;
 
-// Whether there is a switch, and how many bytes of the buffer are lent to it. All that it holds is lent beside the desk.
-#[derive(Clone, Copy)]
-pub struct Desk {
+// Whether there is a switch, what it is kept in, and the buffer, with how many of its bytes are lent to it.
+#[derive(Drop)]
+pub struct Desk<const N: usize> {
+    // Stays as it is: no Option, since `begun` (desk) leaves every array as it was where a start is refused.
     pub there: bool,
-    pub room: usize,
+    pub counters: [u16; COUNTERS],
+    pub numbers: [u8; NUMBERS],
+    pub paddles: [u8; BYTES],
+    pub all: [u8; 256],
+    room: usize,
+    buffer: [u8; N],
 }
 
-// The desk after a line, and the place behind what is written of it.
-#[derive(Clone, Copy)]
-pub struct Turn {
-    pub desk: Desk,
-    pub at: usize,
+// Clauses see a scene.
+impl<const N: usize> Model for Desk<N> {
+    ghost use Rattle.stage.specs.Stage.{Scene, scene};
+    ghost use Rattle.switch.specs.Switch.{arrays};
+
+    ghost Value = { Scene };
+
+    ghost view = { λ d. scene d.there (arrays d.counters d.numbers d.paddles d.all) d.room d.buffer };
 }
 
-// What happens to a switch. A packet is so many bytes of those that are lent beside it.
+// What happens to a switch.
 #[derive(Clone, Copy)]
-pub enum Event {
+pub enum Event<'a> {
     Press(u8),
     Release(u8),
     Tick,
-    Packet(usize),
+    Packet(&'a [u8]),
     Restart,
 }
 
-impl Desk {
+impl Event<'_> {
+    fn letter(self) -> u8
+        ensures { result ≡ letter_of self.entry }
+    {
+        match self {
+            Event::Press(_) => b'p',
+            Event::Release(_) => b'r',
+            Event::Tick => b't',
+            Event::Packet(_) => b'k',
+            Event::Restart => b'x',
+        }
+    }
+}
+
+impl<const N: usize> Desk<N> {
     // Nobody there.
-    pub fn empty() -> Desk
-        ensures { result ≡ empty_desk }
+    pub fn empty() -> Self
+        ensures { result ≡ empty_desk N }
     {
         Desk {
             there: false,
+            counters: [0; COUNTERS],
+            numbers: [0; NUMBERS],
+            paddles: [0; BYTES],
+            all: [0; 256],
             room: ROOM,
+            buffer: [0; N],
         }
     }
 
-    pub fn with_room(self, room: usize) -> Desk
-        ensures { result ≡ record { there = self.there; room = room } }
+    // From now on so many bytes of the buffer are lent, or all where there are fewer.
+    pub fn lend(&mut self, room: usize)
+        ensures { self.new ≡ record self.old { room = room } }
     {
-        let mut next = self;
-        next.room = room;
-        next
+        self.room = room;
     }
-}
 
-// One tick, whose row is written on a page of its own.
-pub fn tick(
-    desk: Desk,
-    counters: &mut [u16; COUNTERS],
-    numbers: &mut [u8; NUMBERS],
-    paddles: &mut [u8; BYTES],
-    all: &mut [u8; 256],
-    buffer: &mut [u8],
-    page: &mut [u8],
-) -> Turn
-    ensures { Plays (happened row tick (scene_of desk counters.old numbers.old paddles.old all.old buffer.old)) (page_of page.old 0) result.desk counters.new numbers.new paddles.new all.new buffer.new (page_of page.new result.at) }
-{
-    let room = least(desk.room, buffer.len());
-    let answer = happen(
-        Event::Tick,
-        b"",
-        counters,
-        numbers,
-        paddles,
-        all,
-        &mut buffer[..room],
-    );
-    let end = ledger::row(page, 0, answer, &buffer[..room]);
-    Turn { desk, at: end }
-}
-
-// An event that is answered by a line.
-pub fn tell(
-    event: Event,
-    bytes: &[u8],
-    desk: Desk,
-    counters: &mut [u16; COUNTERS],
-    numbers: &mut [u8; NUMBERS],
-    paddles: &mut [u8; BYTES],
-    all: &mut [u8; 256],
-    buffer: &mut [u8],
-    page: &mut [u8],
-    at: usize,
-) -> Turn
-    ensures { Plays (told (letter_of event) (deed_of event bytes.now) (scene_of desk counters.old numbers.old paddles.old all.old buffer.old)) (page_of page.old at) result.desk counters.new numbers.new paddles.new all.new buffer.new (page_of page.new result.at) }
-{
-    let letter = letter(event);
-    if !desk.there {
-        return Turn {
-            desk,
-            at: page::none(page, at, letter),
-        };
+    // One tick, and its row.
+    pub fn tick<const P: usize>(&mut self, page: &mut Page<P>)
+        ensures { Plays (happened row tick self.old) self.new page.old page.new }
+    {
+        let answer = self.happen(Event::Tick);
+        ledger::row(page, answer, self.lent());
     }
-    let room = least(desk.room, buffer.len());
-    let answer = happen(
-        event,
-        bytes,
-        counters,
-        numbers,
-        paddles,
-        all,
-        &mut buffer[..room],
-    );
-    let next = ledger::answered(page, at, letter, answer, &buffer[..room]);
-    Turn { desk, at: next }
-}
 
-// The event happens with the lent bytes filled.
-fn happen(
-    event: Event,
-    bytes: &[u8],
-    counters: &mut [u16; COUNTERS],
-    numbers: &mut [u8; NUMBERS],
-    paddles: &mut [u8; BYTES],
-    all: &mut [u8; 256],
-    out: &mut [u8],
-) -> Answer
-    ensures { Responds (deed_of event bytes.now) counters.old numbers.old paddles.old all.old (filled out.old) result counters.new numbers.new paddles.new all.new out.new }
-{
-    fill(out);
-    match event {
-        Event::Press(contact) => edges::press(counters, numbers, paddles, all, contact, out),
-        Event::Release(contact) => edges::release(counters, numbers, paddles, all, contact, out),
-        Event::Tick => ticks::tick(counters, numbers, paddles, all, out),
-        Event::Packet(n) => hears::receive(counters, numbers, all, front(bytes, n), out),
-        Event::Restart => wakes::restart(counters, numbers, paddles, all, out),
+    // An event that is answered by a line.
+    #[tactic(auto, unfolding(crate::specs::Stage::told))]
+    pub fn tell<const P: usize>(&mut self, event: Event, page: &mut Page<P>)
+        ensures { Plays (told (letter_of event.entry) (deed_of event.entry) self.old) self.new page.old page.new }
+    {
+        let letter = event.letter();
+        if !self.there {
+            page.none(letter);
+            return;
+        }
+        let answer = self.happen(event);
+        ledger::answered(page, letter, answer, self.lent());
     }
-}
 
-fn letter(event: Event) -> u8
-    ensures { result ≡ letter_of event }
-{
-    match event {
-        Event::Press(_) => b'p',
-        Event::Release(_) => b'r',
-        Event::Tick => b't',
-        Event::Packet(_) => b'k',
-        Event::Restart => b'x',
+    // The event happens with the lent bytes filled.
+    fn happen(&mut self, event: Event) -> Answer
+        ensures { (say : Answer → List ℕ → List ℕ) → done self.new (say result (take self.new.room self.new.buffer)) ≡ happened say (deed_of event.entry) self.old }
+    {
+        let Desk {
+            counters,
+            numbers,
+            paddles,
+            all,
+            room,
+            buffer,
+            ..
+        } = self;
+        let lent = (*room).min(N);
+        let out = &mut buffer[..lent];
+        out.fill(FILL);
+        match event {
+            Event::Press(contact) => edges::press(counters, numbers, paddles, all, contact, out),
+            Event::Release(contact) => edges::release(
+                counters, numbers, paddles, all, contact, out,
+            ),
+            Event::Tick => ticks::tick(counters, numbers, paddles, all, out),
+            Event::Packet(bytes) => hears::receive(counters, numbers, all, bytes, out),
+            Event::Restart => wakes::restart(counters, numbers, paddles, all, out),
+        }
     }
-}
 
-fn fill(out: &mut [u8])
-    ensures { out.new ≡ filled out.old }
-{
-    let mut i = 0;
-    while i < out.len() {
-        out[i] = FILL;
-        i += 1;
+    // The bytes that are lent.
+    fn lent(&self) -> &[u8]
+        ensures { result.now ≡ take self.now.room self.now.buffer }
+    {
+        front(&self.buffer, self.room)
     }
-}
-
-fn least(a: usize, b: usize) -> usize
-    ensures { result ≡ min a b }
-{
-    if a < b {
-        return a;
-    }
-    b
 }

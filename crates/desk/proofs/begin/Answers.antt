@@ -3,6 +3,4 @@ use Rattle.desk.proofs.Playing.{begins}
 use Rattle.desk.proofs.begin.Goals as goal
 
 pub returns : goal.returns
-returns c =
-    let a = c.args in
-    begins _ a.desk _ _ _ _ _ _ _ _ _ _ _ c.start-answer.ensures c.started-next.ensures
+returns g c = begins c.desk.view_is c.start-answer.ensures c.started.ensures

@@ -1,12 +1,6 @@
-use mathlib.Core.Bool.{◌&&◌}
-use mathlib.Core.Path.{◌≡◌}
-use Prim.Native.Nat.{◌≤◌, ◌-◌}
-use lib.ListN.{length, drop}
+use Rattle.std.proofs.Common.{◌≡◌, take}
 use Rattle.ledger.specs.Writing.{untouched}
 use Rattle.ledger.proofs.untouched.Given as goal
 
-abbrev pub invariant-loop-i : goal.invariant-loop-i
-invariant-loop-i l = (l.i ≤ length l.bytes) × ((l.same && untouched (drop l.i l.bytes)) ≡ untouched l.bytes)
-
-abbrev pub decreases-loop-i : goal.decreases-loop-i
-decreases-loop-i l = length l.bytes - l.i
+abbrev pub invariant-loop-byte : goal.invariant-loop-byte
+invariant-loop-byte l = l.same ≡ untouched (take l.byte-index l.bytes)
