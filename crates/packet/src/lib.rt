@@ -109,6 +109,7 @@ pub fn message(frame: Result<Header, Flaw>, packet: &[u8]) -> &[u8]
 }
 
 // Byte 0, bits 4-0.
+#[tactic(auto, unfolding(crate::specs::Layout::whole_in))]
 fn whole(first: u8) -> u8
     ensures { result ≡ whole_in first }
 {
@@ -116,12 +117,15 @@ fn whole(first: u8) -> u8
 }
 
 // Byte 1, bit 7.
+#[tactic(auto, unfolding(crate::specs::Layout::reserved_in))]
 fn reserved(second: u8) -> u8
     ensures { result ≡ reserved_in second }
 {
     second >> 7 & 1
 }
 
+// Stays as it is: shifts and masks are the form named for the header's bits (docs/DECISIONS.md 81).
+#[tactic(auto, unfolding(crate::specs::Layout::header_in))]
 fn fields(first: u8, second: u8, network: u8, destination: u8, source: u8) -> Header
     ensures { result ≡ header_in first second network destination source }
 {

@@ -59,6 +59,7 @@ impl Note {
 }
 
 // Lays a note's packet at the front of a place and answers its whole length: 0 where there is none, or no room for it.
+#[tactic(auto, using(crate::proofs::Laws::laid_nothing, crate::proofs::Laws::placed_nothing), unfolding(crate::specs::Code::sent_of, crate::specs::Code::front, crate::specs::Post::bytes_of, crate::specs::Post::enveloped))]
 pub fn lay(note: Note, out: &mut [u8]) -> u8
     ensures { Laid (sent_of note) out.old result out.new }
 {
@@ -95,6 +96,7 @@ fn link(note: Note, message: &[u8], out: &mut [u8]) -> u8
 }
 
 // Lays a reply to the one who asked likewise. `seen` holds the password only where the caller may show it.
+#[tactic(auto, using(crate::proofs::Laws::laid_nothing, crate::proofs::Laws::placed_nothing), unfolding(crate::specs::Code::front, crate::specs::Post::replied, crate::specs::Post::reply_message, crate::specs::Post::bytes_of, crate::specs::Post::enveloped))]
 pub fn send(
     all: &[u8; 256],
     seen: Option<Password>,
@@ -137,10 +139,7 @@ fn send_values(
 fn held(count: u8) -> usize
     ensures { result ≡ min 16 count }
 {
-    if count < MOST {
-        return count as usize;
-    }
-    MOST as usize
+    MOST.min(count) as usize
 }
 
 fn direct(all: &[u8; 256], to: u8, message: &[u8], out: &mut [u8]) -> u8

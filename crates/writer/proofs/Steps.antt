@@ -1,32 +1,13 @@
--- What the proofs of the functions lean on: fields put together, and the stores that make a packet.
-use Rattle.std.specs.Prelude.{if◌then◌else◌}
-use Prim.Native.Nat.{ℕ, suc, ◌+◌, ◌-◌, ◌*◌, ◌%◌, ◌^◌, ◌≤◌, ◌<◌}
-use native.Mathlib.Nat.{mod-eq_of_lt}
+-- What the proofs of the functions lean on: the stores that make a packet.
+use Prim.Native.Nat.{ℕ, suc, ◌+◌, ◌-◌, ◌%◌, ◌≤◌}
 use native.Mathlib.Omega.{arith}
-use mathlib.Core.Bool.{Bool, true, false}
 use mathlib.Core.List.{List, [], ◌++◌}
-use mathlib.Core.Path.{◌≡◌, refl, ap, ◌∙◌}
-use mir.Val.{bool_byte}
-use lib.Bits.{bit_or, or_shifted}
+use mathlib.Core.Path.{◌≡◌, ap, ◌∙◌}
 use lib.ListN.{length, get_or, take, drop, set, length-drop}
 use borrow.Rule.Slice.PartMut.{put_mid}
 use lib.Seq.{drop-cons, take_at, set_at, drop-drop, append_snoc}
 use Rattle.packet.specs.declared.Header.{Header}
 use Rattle.packet.specs.Layout.{head_bytes, total, balance, packed}
-
--- A field shifted past another one and joined with it by `|` is their sum.
-pub joined : (a k b : ℕ) → a * 2 ^ k < 256 → b < 2 ^ k → bit_or (a * 2 ^ k % 256) b ≡ a * 2 ^ k + b
-joined a k b fits below = ap (λ (x : ℕ). bit_or x b) (mod-eq_of_lt fits) ∙ or_shifted a k b below
-
--- A bool as a number.
-pub bit : (b : Bool) → bool_byte b ≡ (if b then 1 else 0)
-bit true = refl
-bit false = refl
-
--- A bool as a number is 0 or 1.
-pub bit_small : (b : Bool) → (if b then 1 else 0) ≤ 1
-bit_small true = omega arith
-bit_small false = omega arith
 
 -- The header's bytes, the message and the balanced sum, each as its call leaves it, are the packet at the front of the buffer.
 pub laid_out : (h : Header) (m out head front message : List ℕ) (sum last : ℕ) → length m + 6 ≤ length out
@@ -37,14 +18,14 @@ pub laid_out : (h : Header) (m out head front message : List ℕ) (sum last : �
     → last ≡ balance sum
     → set (put_mid 5 (5 + length m - 5) (front ++ drop 5 out) message) (5 + length m) last ≡ packed h m ++ drop (length m + 6) out
 unfolding head_bytes packed
-laid_out h m out head front message sum last room head_is front_is message_is sum_is_lem last_is =
+laid_out h m out head front message sum last room head_is front_is message_is sum_is last_is =
     let whole = head_bytes h (length m) m in
     let left = drop 5 out in
     let n = length m in
     let size : 5 + n - 5 ≡ n = omega arith in
     let copied : put_mid 5 (5 + n - 5) (front ++ left) message ≡ whole ++ drop n left = rw (front_is, head_is, message_is, size) in
     let balanced : last ≡ balance (total whole % 256) =
-    last_is ∙ ap balance (sum_is_lem ∙ rw (copied, take_at whole (drop n left) (5 + n) (omega arith))) in
+    last_is ∙ ap balance (sum_is ∙ rw (copied, take_at whole (drop n left) (5 + n) (omega arith))) in
     let six : 5 + suc n ≡ n + 6 = omega arith in
     let rest : drop (suc n) left ≡ drop (n + 6) out = rw (drop-drop, six) in
     rw (copied, balanced, drop-cons left n 0 (simp length-drop (omega arith)), set_at whole (get_or left n 0) (drop (suc n) left) (balance (total whole % 256)) (5 + n) (omega arith), rest, append_snoc)

@@ -76,6 +76,8 @@ fn head(header: Header, size: usize) -> [u8; HEAD]
     ]
 }
 
+// Stays as it is: shifts and masks are the form named for the header's bits (docs/DECISIONS.md 81).
+#[tactic(auto, unfolding(packet::specs::Layout::first_byte))]
 fn first(link: bool, repeat: u8, whole: u8) -> u8
     requires { (repeat ≤ 3) × (whole ≤ 31) }
     ensures { result ≡ first_byte link repeat whole }
@@ -83,6 +85,7 @@ fn first(link: bool, repeat: u8, whole: u8) -> u8
     (link as u8) << 7 | (repeat << 5 | whole)
 }
 
+#[tactic(auto, unfolding(packet::specs::Layout::second_byte))]
 fn second(request: u8, count: u8, sequence: u8) -> u8
     requires { (request ≤ 7) × ((count ≤ 3) × (sequence ≤ 3)) }
     ensures { result ≡ second_byte request count sequence }
@@ -91,8 +94,9 @@ fn second(request: u8, count: u8, sequence: u8) -> u8
 }
 
 // The checksum for a sum.
+#[tactic(auto, unfolding(packet::specs::Layout::balance))]
 fn balance(sum: u8) -> u8
     ensures { result ≡ balance sum }
 {
-    ((256 - sum as u16) % 256) as u8
+    sum.wrapping_neg()
 }
