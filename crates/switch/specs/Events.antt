@@ -1,4 +1,4 @@
--- What each event asks of the switch, as a job. jobOfX is the job that X makes of a state: a deed, its bytes, their frame, its order, its
+-- What each event asks of the switch, as a job. job_of_x is the job that x makes of a state: a deed, its bytes, their frame, its order, its
 -- work. The password is no argument of any of them; a job can hold a guess to compare with it or a function to show it by (vault).
 use Rattle.std.specs.Prelude.{ℕ, List, [], ◌∷◌, Result, Ok, Err, map, drop, nat_le, nat_lt, if◌then◌else◌, Option, Some, None}
 use Rattle.units.specs.Units.{percent_of}

@@ -13,7 +13,7 @@ use Rattle.judge.specs.declared.Order.TheVariants as order
 unfoldable pub verdict_on : Password → Password → Result Order Denied
 verdict_on w guess = if matches w guess then Ok (order.Guess guess) else Err denied.Password
 
--- Whether an order is refused: by its own number, or by 14.
+-- Whether an order is refused: for what it was denied for already, or for a wrong guess.
 unfoldable pub verdict_of : Result Order Denied → Password → Result Order Denied
 verdict_of (Err d) w = Err d
 verdict_of (Ok (order.Guess guess)) w = verdict_on w guess
