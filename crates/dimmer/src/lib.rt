@@ -3,10 +3,9 @@
 
 ghost use Rattle.std.specs.Prelude.{◌≡◌};
 ghost use Rattle.dimmer.specs.declared.Motion.TheVariants.{Idle, Fading};
-ghost use Rattle.dimmer.specs.Dimmer.{dimmer, heading_to, fresh_dimmer, set_to, stopped, set_blinking, towards, stepped, faded, flickered, ticked};
+ghost use Rattle.dimmer.specs.Dimmer.{dimmer, heading_to, fresh_dimmer, set_to, stopped, set_blinking, towards, faded, flickered, ticked};
 
 use levels::{Options, allowed, blink_ticks, remembered, ticks, wanted};
-use std::cmp::Ordering;
 use timers::{Timer, turn};
 use units::Step;
 
@@ -114,22 +113,14 @@ impl Dimmer {
         self.fading(target, ticks, ticks.run())
     }
 
-    // One tick of a fade.
-    #[tactic(auto, unfolding(crate::specs::Dimmer::faded))]
+    // One tick of a fade; with its last step it is over.
+    #[tactic(auto, unfolding(crate::specs::Dimmer::faded, crate::specs::Dimmer::stepped))]
     fn faded(self, target: Step, period: u16, left: u16) -> Dimmer
         ensures { result ≡ faded self.level self.last target period left }
     {
-        if left == 0 {
-            return self.stepped(target, period);
+        if 0 < left {
+            return self.fading(target, period, left.run());
         }
-        self.fading(target, period, left.run())
-    }
-
-    // A fade's next step; with the last one it is over.
-    #[tactic(auto, unfolding(crate::specs::Dimmer::stepped))]
-    fn stepped(self, target: Step, period: u16) -> Dimmer
-        ensures { result ≡ stepped self.level self.last target period }
-    {
         let level = towards(self.level, target);
         if level == target {
             return self.resting(target);
@@ -184,9 +175,11 @@ impl Dimmer {
 fn towards(level: Step, target: Step) -> Step
     ensures { result ≡ towards level target }
 {
-    match level.cmp(&target) {
-        Ordering::Less => Step(level.0 + 1),
-        Ordering::Equal => level,
-        Ordering::Greater => Step(level.0 - 1),
+    if level < target {
+        Step(level.0 + 1)
+    } else if target < level {
+        Step(level.0 - 1)
+    } else {
+        level
     }
 }

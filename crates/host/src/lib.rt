@@ -26,6 +26,23 @@ pub struct Figures {
     pub mode: u8,
 }
 
+impl From<Answer> for Figures {
+    ghost from_gives = { λ answer figures. figures ≡ in_figures answer };
+
+    #[tactic(auto, unfolding(crate::specs::Host::in_figures))]
+    fn from(answer: Answer) -> Figures {
+        Figures {
+            lengths: answer.sent.lengths,
+            count: answer.sent.count,
+            number: answer.number,
+            level: answer.level.0,
+            output: answer.output.0,
+            colour: u8::from(answer.colour),
+            mode: u8::from(answer.mode),
+        }
+    }
+}
+
 // Refused, it leaves every array as it was. Accepted, it clears the state first, so that of a switch that stood there nothing is
 // left.
 pub fn melszondru_parts_start(
@@ -37,7 +54,7 @@ pub fn melszondru_parts_start(
 ) -> Figures
     ensures { Begins image.now counters.old numbers.old paddles.old all.old result counters.new numbers.new paddles.new all.new }
 {
-    figures_of(wakes::start(image, counters, numbers, paddles, all))
+    Figures::from(wakes::start(image, counters, numbers, paddles, all))
 }
 
 pub fn melszondru_parts_press(
@@ -50,7 +67,7 @@ pub fn melszondru_parts_press(
 ) -> Figures
     ensures { Speaks (press contact) counters.now numbers.now paddles.old all.now out.now result counters.now numbers.now paddles.new all.now out.now }
 {
-    figures_of(edges::press(counters, numbers, paddles, all, contact, out))
+    Figures::from(edges::press(counters, numbers, paddles, all, contact, out))
 }
 
 pub fn melszondru_parts_release(
@@ -63,7 +80,7 @@ pub fn melszondru_parts_release(
 ) -> Figures
     ensures { Speaks (release contact) counters.old numbers.old paddles.old all.now out.old result counters.new numbers.new paddles.new all.now out.new }
 {
-    figures_of(edges::release(counters, numbers, paddles, all, contact, out))
+    Figures::from(edges::release(counters, numbers, paddles, all, contact, out))
 }
 
 pub fn melszondru_parts_tick(
@@ -75,7 +92,7 @@ pub fn melszondru_parts_tick(
 ) -> Figures
     ensures { Speaks tick counters.old numbers.old paddles.old all.old out.old result counters.new numbers.new paddles.new all.new out.new }
 {
-    figures_of(ticks::tick(counters, numbers, paddles, all, out))
+    Figures::from(ticks::tick(counters, numbers, paddles, all, out))
 }
 
 // A packet has no business with the paddles: whatever bytes they have, they stay.
@@ -88,7 +105,7 @@ pub fn melszondru_parts_receive(
 ) -> Figures
     ensures { (paddles : List ℕ) → Speaks (receive packet.now) counters.old numbers.old paddles all.old out.old result counters.new numbers.new paddles all.new out.new }
 {
-    figures_of(hears::receive(counters, numbers, all, packet, out))
+    Figures::from(hears::receive(counters, numbers, all, packet, out))
 }
 
 pub fn melszondru_parts_restart(
@@ -100,7 +117,7 @@ pub fn melszondru_parts_restart(
 ) -> Figures
     ensures { Speaks restart counters.old numbers.old paddles.old all.old out.now result counters.new numbers.new paddles.new all.new out.now }
 {
-    figures_of(wakes::restart(counters, numbers, paddles, all, out))
+    Figures::from(wakes::restart(counters, numbers, paddles, all, out))
 }
 
 // The 256 bytes for the owner to save, with the password among them.
@@ -108,24 +125,4 @@ pub fn melszondru_parts_image(numbers: &[u8; NUMBERS], all: &[u8; 256], out: &mu
     ensures { out.new ≡ image_of all.now (password_of numbers.now) }
 {
     wakes::image(numbers, all, out)
-}
-
-fn figures_of(answer: Answer) -> Figures
-    ensures { result ≡ in_figures answer }
-{
-    let sent = answer.sent;
-    let lengths = sent.lengths;
-    let level = answer.level;
-    let output = answer.output;
-    let colour = answer.colour;
-    let mode = answer.mode;
-    Figures {
-        lengths,
-        count: sent.count,
-        number: answer.number,
-        level: level.0,
-        output: output.0,
-        colour: u8::from(colour),
-        mode: u8::from(mode),
-    }
 }

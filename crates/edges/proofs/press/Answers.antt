@@ -14,4 +14,4 @@ pub returns-then-contact-ge-CONTACTS : goal.returns-then-contact-ge-CONTACTS
 returns-then-contact-ge-CONTACTS c = press_unknown _ _ _ _ _ _ _ c.refused-then-contact-ge-CONTACTS.result (omega arith) refl (omega arith) c.refused-then-contact-ge-CONTACTS.ensures
 
 pub returns : goal.returns
-returns c = press_known _ _ _ _ _ _ c.none-2.result c.shown-2.result (omega arith) c.none-2.ensures _ (omega arith) c.press.ensures c.shown-2.ensures
+returns c = press_known _ _ _ _ _ _ c.none.result c.shown.result (omega arith) c.none.ensures _ (omega arith) c.press.ensures c.shown.ensures

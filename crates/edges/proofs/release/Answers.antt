@@ -14,12 +14,12 @@ returns-then-contact-ge-CONTACTS c = release_unknown _ _ _ _ _ _ _ c.refused-the
 
 pub returns-then-none : goal.returns-then-none
 returns-then-none c =
-    release_still _ _ _ _ _ _ c.none-then-none.result c.shown-then-none.result (omega arith) c.none-then-none.ensures _ _ _ (omega arith) c.release-gesture.ensures c.none-2.ensures c.if-none.true c.shown-then-none.ensures
+    release_still _ _ _ _ _ _ c.none-then-none.result c.shown.result (omega arith) c.none-then-none.ensures _ _ _ (omega arith) c.release-gesture.ensures c.none.ensures c.if-none.true c.shown.ensures
 
 pub overflow_cast-paddle_of : goal.overflow_cast-paddle_of
 overflow_cast-paddle_of c = omega (arith, paddle_low c.args.contact, c.paddle_of.ensures)
 
 pub returns : goal.returns
 returns c =
-    release_responds _ _ _ _ _ _ _ _ _ _ _ _ _ _ _ (omega (arith, c.if-out-lt-ROOM.false)) (omega (arith, c.if-contact-ge-CONTACTS.false)) c.release-gesture.ensures c.none-2.ensures c.if-none.false (record { counted = search rules; numbered = search rules }) c.paddle_of.ensures
+    release_responds _ _ _ _ _ _ _ _ _ _ _ _ _ _ _ (omega (arith, c.if-out-lt-ROOM.false)) (omega (arith, c.if-contact-ge-CONTACTS.false)) c.release-gesture.ensures c.none.ensures c.if-none.false (record { counted = search rules; numbered = search rules }) c.paddle_of.ensures
     c.let_go-sent.ensures c.shown-2.ensures

@@ -11,8 +11,8 @@ returns-then-out-lt-ROOM c = λ l.
 
 pub returns-in_default : goal.returns-in_default
 returns-in_default c = λ l.
-    garbled_responds _ _ _ l _ _ (omega (arith, c.if-out-lt-ROOM.false)) _ c.read-frame.ensures c.number.result _ _ c.none-in_default.result c.shown-in_default.result
-    (record { counted = search rules; numbered = search rules }) c.in_default.not-Ok c.number.ensures c.signal.ensures c.none-in_default.ensures c.shown-in_default.ensures
+    garbled_responds _ _ _ l _ _ (omega (arith, c.if-out-lt-ROOM.false)) _ c.read-frame.ensures c.number.result _ _ c.none.result c.shown.result
+    (record { counted = search rules; numbered = search rules }) c.in_default.not-Ok c.number.ensures c.signal.ensures c.none.ensures c.shown.ensures
 
 pub returns-in-Err : goal.returns-in-Err
 returns-in-Err c = λ l.

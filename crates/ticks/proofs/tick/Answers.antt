@@ -16,5 +16,5 @@ returns-then-not-quiet c = tick_all _ _ _ _ _ _ _ _ _ _ _ (omega arith) c.comple
 
 pub returns : goal.returns
 returns c =
-    tick_quick _ _ _ _ _ _ _ _ _ _ c.none-2.result c.shown-2.result (omega (arith, c.if-out-lt-ROOM.false)) c.save_in.ensures (omega (arith, c.if-save_in-eq0.false)) c.quiet.ensures c.if-not-quiet.false (record { counted = search rules; numbered = search rules }) c.run.ensures
-    c.pass.ensures c.none-2.ensures c.shown-2.ensures
+    tick_quick _ _ _ _ _ _ _ _ _ _ c.none.result c.shown.result (omega (arith, c.if-out-lt-ROOM.false)) c.save_in.ensures (omega (arith, c.if-save_in-eq0.false)) c.quiet.ensures c.if-not-quiet.false (record { counted = search rules; numbered = search rules }) c.run.ensures
+    c.pass.ensures c.none.ensures c.shown.ensures
