@@ -64,8 +64,8 @@ pub struct Entry {
 // Entries into Setup, and restarts.
 #[derive(Clone, Copy)]
 pub enum Counter {
-    Setups = 0xFA,
-    Restarts = 0xFC,
+    Setups,
+    Restarts,
 }
 
 // Stays as it is: each named place is read in one line, and one function for them all would need the names again as its argument.
@@ -181,6 +181,9 @@ impl Counter {
     pub fn place(self) -> usize
         ensures { result ≡ counter_place self }
     {
-        self as usize
+        match self {
+            Counter::Setups => 0xFA,
+            Counter::Restarts => 0xFC,
+        }
     }
 }
