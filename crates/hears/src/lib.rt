@@ -11,7 +11,7 @@ use model::ROOM;
 use obey::{hue_of, obey, signal};
 use outbox::Sent;
 use state::parts::{mode_in, password_of};
-use state::{COUNTERS, NUMBERS, sized};
+use state::{COUNTERS, NUMBERS};
 use switch::shown;
 use verdict::verdict_of;
 
@@ -27,7 +27,6 @@ pub fn receive(
     if out.len() < ROOM {
         return shown(2, Sent::none(), counters, numbers, all);
     }
-    sized(counters, numbers);
     let frame = packet::read(packet);
     let Ok(header) = frame else {
         signal(Colour::Black, counters, numbers);

@@ -20,7 +20,7 @@ use state::parts::{
     dimmer_of, keep_dimmer, keep_lamp, keep_mode, keep_password, lamp_of, level_in, mode_in,
     password_of,
 };
-use state::{COUNTERS, NUMBERS, sized};
+use state::{COUNTERS, NUMBERS};
 use vault::Mode;
 use verdict::seen_by;
 use writes::{Write, apply};
@@ -92,7 +92,6 @@ fn perform(
 fn enter(mode: Mode, counters: &mut [u16; COUNTERS], numbers: &mut [u8; NUMBERS])
     ensures { Ready (entering mode (core_of counters.old numbers.old)) (password_of numbers.old) counters.old numbers.old counters.new numbers.new }
 {
-    sized(counters, numbers);
     keep_mode(mode, numbers);
     let lamp = lamp_of(counters, numbers).entered();
     keep_lamp(lamp, counters, numbers);

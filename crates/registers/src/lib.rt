@@ -8,20 +8,17 @@ ghost use Rattle.registers.specs.Code.{Took};
 use places::{COMPONENTS, FIRST, SECOND, SIZE};
 use vault::Password;
 
-// Copies a lent image into the registers and takes the password out of it. An image that is not 256 bytes is refused, which is answered by 1,
-// and the registers keep theirs.
+// Copies a lent image into the registers and takes the password out of it. Where the image is not 256 bytes there is none, which
+// is answered by 1, and the registers keep theirs.
 #[tactic(auto, unfolding(crate::specs::Code::taken_of, crate::specs::Code::after_taking, crate::specs::Registers::apart, crate::specs::Registers::password_in))]
 pub fn take(image: &[u8], all: &mut [u8; 256]) -> Option<Password>
     ensures { Took image.now all.old result all.new }
 {
-    if image.len() != SIZE {
-        return None;
-    }
-    let password = Password(image[FIRST], image[SECOND]);
-    all.copy_from_slice(image);
+    let image: &[u8; 256] = image.try_into().ok()?;
+    *all = *image;
     all[FIRST] = 0;
     all[SECOND] = 0;
-    Some(password)
+    Some(Password(image[FIRST], image[SECOND]))
 }
 
 // The 256 bytes with the password put back, for the owner to save.
@@ -34,8 +31,8 @@ pub fn image(all: &[u8; 256], password: Password, out: &mut [u8; 256])
     out[SECOND] = password.1;
 }
 
-// Fills the lent bytes with as many registers, from `first` on. A reader is handed the password, or it is hidden: None. Past the password
-// and within the registers the bytes are copied, whatever the reader was handed.
+// Fills the lent bytes with as many registers, from `first` on. `seen` is the password, or none where it is hidden. Past it and
+// within the registers the bytes are copied, whatever the reader was handed.
 #[tactic(auto, using(crate::proofs::Laws::range_plain))]
 pub fn range(all: &[u8; 256], seen: Option<Password>, first: u8, out: &mut [u8])
     ensures { out.new ≡ range_of all.now seen first (length out.old) }

@@ -11,7 +11,7 @@ returns-then-out-lt-ROOM c = λ l.
 pub returns-in_default : goal.returns-in_default
 returns-in_default c = λ l.
     garbled_responds _ _ _ l _ _ (omega (arith, c.if-out-lt-ROOM.false)) _ c.read-frame.ensures c.number.result _ _ c.none-in_default.result c.shown-in_default.result
-    c.sized.ensures c.in_default.not-Ok c.number.ensures c.signal.ensures c.none-in_default.ensures c.shown-in_default.ensures
+    (record { counted = omega arith; numbered = omega arith }) c.in_default.not-Ok c.number.ensures c.signal.ensures c.none-in_default.ensures c.shown-in_default.ensures
 
 pub returns-in-Err : goal.returns-in-Err
 returns-in-Err c = λ l.
@@ -22,5 +22,5 @@ returns-in-Err c = λ l.
 pub returns : goal.returns
 returns c = λ l.
     granted_responds _ _ _ l _ _ (omega (arith, c.if-out-lt-ROOM.false)) _ c.read-frame.ensures _ _ _ _ c.in-Ok.is c.message-message.ensures c.mode_in.ensures c.judge-judged.ensures
-    _ _ _ _ c.obey-length.result _ _ _ _ _ _ _ _ c.shown-2.result c.password_of.ensures c.verdict_of.ensures c.in-Ok-verdict_of.is c.values.ensures c.sized.ensures
+    _ _ _ _ c.obey-length.result _ _ _ _ _ _ _ _ c.shown-2.result c.password_of.ensures c.verdict_of.ensures c.in-Ok-verdict_of.is c.values.ensures (record { counted = omega arith; numbered = omega arith })
     c.obey-length.ensures c.hue_of.ensures c.signal-2.ensures c.one.ensures c.shown-2.ensures
