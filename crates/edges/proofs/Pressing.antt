@@ -1,5 +1,5 @@
 -- Edges over what their callees promise.
-use Rattle.std.specs.Prelude.{◌≡◌, ℕ, ◌<◌, ◌≤◌, Bool, true, false, cond, eqb, List, [], length}
+use Rattle.std.specs.Prelude.{◌≡◌, ℕ, ◌<◌, ◌≤◌, Bool, true, false, cond, eqb, List, [], length, Option, Some, None}
 use mathlib.Core.Path.{refl, sym, ap, subst, ◌∙◌}
 use mathlib.Core.Bool.{true≢false}
 use native.Mathlib.Omega.{arith}
@@ -15,9 +15,9 @@ use Rattle.dimmer.specs.declared.Dimmer.{Dimmer}
 use Rattle.paddle.specs.Paddle.{ending, gesture_up, goes_up, with_contact}
 use Rattle.paddle.specs.declared.Contact.{Contact}
 use Rattle.paddle.specs.declared.Gesture.{Gesture}
-use Rattle.paddle.specs.declared.Gesture.TheVariants.{Nothing, Release}
+use Rattle.paddle.specs.declared.Gesture.TheVariants.{Release}
 use Rattle.paddle.specs.declared.Paddle.{Paddle}
-use Rattle.paddle.specs.Code.{completes_nothing}
+use Rattle.std.specs.Option.{is_none}
 use Rattle.model.specs.Model.{contact_count, kind_of, paddle_of, room}
 use Rattle.writes.specs.Writes.{applied, change_of, change_at}
 use Rattle.acts.specs.Core.{signalled, stopping, unwritten, with_dimmer}
@@ -65,30 +65,29 @@ module _ (contact : ℕ) (c n l all out : List ℕ) (none : Sent) (r : Answer) (
       leaves_core _ 0 (pressed_at contact (paddles_of l)) c n l all out none r l' (quick_press all _ _ _ _ enough contact k) none_sent shows moved
 
   pub release_still :
-      (l' : List ℕ) (g : Gesture) (still : Bool) → contact < contact_count → Lifts contact l g l' → still ≡ completes_nothing g → still ≡ true
+      (l' : List ℕ) (g : Option Gesture) → contact < contact_count → Lifts contact l g l' → is_none g ≡ true
       → r ≡ answer_with 0 none all (core_of c n)
       → Responds (release contact) c n l all out r c n l' all out
-  release_still l' g still k lifts tells is-still shows =
+  release_still l' g k lifts still shows =
       leaves_core _ 0 (released_at contact (paddles_of l)) c n l all out none r l'
-      (quick_release all _ _ _ _ enough contact k (ap completes_nothing (sym lifts.completed) ∙ sym tells ∙ is-still)) none_sent shows lifts.paddles
+      (quick_release all _ _ _ _ enough contact k (ap is_none (sym lifts.completed) ∙ still)) none_sent shows lifts.paddles
 
 -- A release edge completes the end of a Hold, or nothing.
-up_or_none : (a b : Bool) → completes_nothing (cond a (cond b Release Nothing) Nothing) ≡ false → cond a (cond b Release Nothing) Nothing ≡ Release
-unfolding completes_nothing
+up_or_none : (a b : Bool) → is_none (cond a (cond b (Some Release) None) None) ≡ false → cond a (cond b (Some Release) None) None ≡ Some Release
 up_or_none true true h = refl
 up_or_none true false h = absurd (true≢false h)
 up_or_none false b h = absurd (true≢false h)
 
-only_release : (kind : Contact) (p : Paddle) → completes_nothing (gesture_up kind p) ≡ false → gesture_up kind p ≡ Release
+only_release : (kind : Contact) (p : Paddle) → is_none (gesture_up kind p) ≡ false → gesture_up kind p ≡ Some Release
 unfolding gesture_up ending
 only_release kind p = up_or_none (goes_up kind p) (eqb (with_contact kind false p).hold 0)
 
-pub lets_go : (contact : ℕ) (ps : List Paddle) → completes_nothing (gesture_at contact ps) ≡ false → gesture_at contact ps ≡ Release
+pub lets_go : (contact : ℕ) (ps : List Paddle) → is_none (gesture_at contact ps) ≡ false → gesture_at contact ps ≡ Some Release
 unfolding gesture_at
 lets_go contact ps = only_release (kind_of contact) (paddle_at contact ps)
 
 -- The end of a Hold acts on the dimmer alone, and writes nothing.
-acts_so : (mode : Mode) (all : List ℕ) (i : ℕ) (c : Core) → acted_in mode all i Release c ≡ unwritten (with_dimmer (let_go i mode c.dimmer) c)
+acts_so : (mode : Mode) (all : List ℕ) (i : ℕ) (c : Core) → acted_in mode all i (Some Release) c ≡ unwritten (with_dimmer (let_go i mode c.dimmer) c)
 unfolding acted_in acted_in_normal acted_in_setup acted_in_factory let_go stopping
 acts_so Normal all i c = refl
 acts_so Setup all i c = refl
@@ -96,8 +95,8 @@ acts_so Factory all i c = refl
 
 pub let_go_turned :
     (all : List ℕ) (i : ℕ) (c : Core)
-    → turned i Release (moment all c [] nothing)
-    ≡ moment all (with_dimmer (let_go i c.mode c.dimmer) c) (announced all c.mode i Release (percent_of (let_go i c.mode c.dimmer).level)) nothing
+    → turned i (Some Release) (moment all c [] nothing)
+    ≡ moment all (with_dimmer (let_go i c.mode c.dimmer) c) (announced all c.mode i (Some Release) (percent_of (let_go i c.mode c.dimmer).level)) nothing
 unfolding turned after acted unwritten applied change_of change_at
 let_go_turned all i c = rw (acts_so c.mode all i c, followed_nothing nothing)
 
@@ -136,10 +135,10 @@ one_note box box' n none more = (holds_more 0 [] box box' n (holds_none box none
 
 module _ (i : ℕ) (c n all out : List ℕ) (mode : Mode) (d₀ d : Dimmer) (c₁ n₁ : List ℕ) (p : Percent) (note : Note) (box box' : Outbox) (sent : Sent) (out' : List ℕ)
     (moded : mode ≡ mode_in n) (read : d₀ ≡ dimmer_of c n) (ends : d ≡ let_go i mode d₀) (kept : DimmerKept d c n c₁ n₁)
-    (percent : p ≡ percent_of d.level) (noted : note ≡ note_of all mode i Release p) (empty : box ≡ no_notes) (more : box' ≡ boxed box note)
+    (percent : p ≡ percent_of d.level) (noted : note ≡ note_of all mode i (Some Release) p) (empty : box ≡ no_notes) (more : box' ≡ boxed box note)
     (lays : Sends (packets_in box') out sent out') where
   abbrev m : Moment
-  m = turned i Release (moment all (core_of c n) [] nothing)
+  m = turned i (Some Release) (moment all (core_of c n) [] nothing)
 
   dimmed : d ≡ let_go i (mode_in n) (dimmer_of c n)
   dimmed = ends ∙ ap (λ (x : Mode). let_go i x d₀) moded ∙ ap (let_go i (mode_in n)) read
@@ -148,16 +147,16 @@ module _ (i : ℕ) (c n all out : List ℕ) (mode : Mode) (d₀ d : Dimmer) (c�
   unfolding core_of
   core_so = ap (λ (x : Moment). x.core) (let_go_turned all i (core_of c n)) ∙ ap (λ (x : Dimmer). with_dimmer x (core_of c n)) (sym dimmed)
 
-  announced_so : announced all mode i Release p ≡ announced all (mode_in n) i Release (percent_of (let_go i (mode_in n) (dimmer_of c n)).level)
+  announced_so : announced all mode i (Some Release) p ≡ announced all (mode_in n) i (Some Release) (percent_of (let_go i (mode_in n) (dimmer_of c n)).level)
   announced_so =
-      ap (λ (x : Mode). announced all x i Release p) moded
-      ∙ ap (announced all (mode_in n) i Release) (percent ∙ ap (λ (x : Dimmer). percent_of x.level) dimmed)
+      ap (λ (x : Mode). announced all x i (Some Release) p) moded
+      ∙ ap (announced all (mode_in n) i (Some Release)) (percent ∙ ap (λ (x : Dimmer). percent_of x.level) dimmed)
 
   sent_so : packets_in box' ≡ m.sent
   unfolding core_of
   sent_so =
       one_note box box' note empty more
-      ∙ (ap sent_of noted ∙ note_sent all mode i Release p)
+      ∙ (ap sent_of noted ∙ note_sent all mode i (Some Release) p)
       ∙ announced_so
       ∙ ap (λ (x : Moment). x.sent) (sym (let_go_turned all i (core_of c n)))
 
@@ -177,17 +176,17 @@ module _ (i : ℕ) (c n all out : List ℕ) (mode : Mode) (d₀ d : Dimmer) (c�
 
 -- A release edge that ends a Hold.
 pub release_responds :
-    (contact : ℕ) (c n l all out : List ℕ) (l' : List ℕ) (g : Gesture) (still : Bool) (i : ℕ) (sent : Sent) (c' n' out' : List ℕ) (r : Answer)
-    → room ≤ length out → contact < contact_count → Lifts contact l g l' → still ≡ completes_nothing g → still ≡ false → Sized c n → i ≡ paddle_of contact
-    → LetsGo (turned i Release (moment all (core_of c n) [] nothing)) c n out sent c' n' out'
+    (contact : ℕ) (c n l all out : List ℕ) (l' : List ℕ) (g : Option Gesture) (i : ℕ) (sent : Sent) (c' n' out' : List ℕ) (r : Answer)
+    → room ≤ length out → contact < contact_count → Lifts contact l g l' → is_none g ≡ false → Sized c n → i ≡ paddle_of contact
+    → LetsGo (turned i (Some Release) (moment all (core_of c n) [] nothing)) c n out sent c' n' out'
     → r ≡ answer_with 0 sent all (core_of c' n')
     → Responds (release contact) c n l all out r c' n' l' all out'
 unfolding job_of_deed job_of_release
-release_responds contact c n l all out l' g still i sent c' n' out' r enough k lifts tells goes_on sized paddle goes shows =
+release_responds contact c n l all out l' g i sent c' n' out' r enough k lifts goes_on sized paddle goes shows =
     let ps = paddles_of l in
-    let gesture-so : gesture_at contact ps ≡ Release = lets_go contact ps (ap completes_nothing (sym lifts.completed) ∙ sym tells ∙ goes_on) in
+    let gesture-so : gesture_at contact ps ≡ Some Release = lets_go contact ps (ap is_none (sym lifts.completed) ∙ goes_on) in
     let s = switch_of c n l all in
-    let m = turned i Release (moment all (core_of c n) [] nothing) in
+    let m = turned i (Some Release) (moment all (core_of c n) [] nothing) in
     let asked : respond s (event (length out) (release contact)) ≡ settled (password_of n) (finished m (released_at contact ps)) =
     says s.plain s.password (length out) (release contact) enough
     ∙ rw (is_known contact (job_of_release contact) s.plain k, gesture-so, ← paddle) in

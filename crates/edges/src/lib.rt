@@ -1,7 +1,7 @@
 // Press and release edges of the contacts.
 #![tactic(auto)]
 
-ghost use Rattle.std.specs.Prelude.{◌≡◌, []};
+ghost use Rattle.std.specs.Prelude.{◌≡◌, [], Some};
 ghost use Rattle.vault.specs.Job.{nothing};
 ghost use Rattle.paddle.specs.declared.Gesture.TheVariants.{Release};
 ghost use Rattle.state.specs.State.{core_of};
@@ -63,8 +63,7 @@ pub fn release(
     if CONTACTS <= contact {
         return refused(Refusal::Contact, counters, numbers, all);
     }
-    let gesture = panel::release(contact, paddles);
-    if gesture.none() {
+    if panel::release(contact, paddles).is_none() {
         return shown(0, Sent::none(), counters, numbers, all);
     }
     let sent = let_go(paddle_of(contact) as u8, counters, numbers, all, out);
@@ -79,13 +78,13 @@ fn let_go(
     all: &[u8; 256],
     out: &mut [u8],
 ) -> Sent
-    ensures { LetsGo (turned paddle Release (moment all.now (core_of counters.old numbers.old) [] nothing)) counters.old numbers.old out.old result counters.new numbers.new out.new }
+    ensures { LetsGo (turned paddle (Some Release) (moment all.now (core_of counters.old numbers.old) [] nothing)) counters.old numbers.old out.old result counters.new numbers.new out.new }
 {
     let mode = mode_in(numbers);
     let dimmer = ended(paddle, mode, dimmer_of(counters, numbers));
     keep_dimmer(dimmer, counters, numbers);
     let percent = Percent::from(dimmer.level);
-    let note = herald::announce(all, mode, paddle, Gesture::Release, percent);
+    let note = herald::announce(all, mode, paddle, Some(Gesture::Release), percent);
     let sent = Outbox::none().with(note).lay(out);
     if sent.count == 0 {
         return sent;
@@ -94,12 +93,12 @@ fn let_go(
     sent
 }
 
+#[tactic(auto, unfolding(crate::specs::Code::let_go))]
 fn ended(paddle: u8, mode: Mode, dimmer: Dimmer) -> Dimmer
     ensures { result ≡ let_go paddle mode dimmer }
 {
     match mode {
-        Mode::Normal => halted(dimmer, paddle),
         Mode::Setup => dimmer,
-        Mode::Factory => halted(dimmer, paddle),
+        Mode::Normal | Mode::Factory => halted(dimmer, paddle),
     }
 }

@@ -1,11 +1,11 @@
 -- What a paddle's gesture does by the mode it finds (01, Paddles, 6 to 9). The paddle is known by its number; `model` says whether it is
 -- a top one, and whether it drives the load: one that does not leaves the dimmer alone.
-use Rattle.std.specs.Prelude.{List, ℕ, eqb, if◌then◌else◌}
+use Rattle.std.specs.Prelude.{List, ℕ, eqb, if◌then◌else◌, Option, Some, None}
 use Rattle.vault.specs.declared.Mode.{Mode}
 use Rattle.vault.specs.declared.Mode.TheVariants.{Normal, Setup, Factory}
 use Rattle.levels.specs.Levels.{options_of}
 use Rattle.paddle.specs.declared.Gesture.{Gesture}
-use Rattle.paddle.specs.declared.Gesture.TheVariants.{Nothing, Taps, Hold, Release}
+use Rattle.paddle.specs.declared.Gesture.TheVariants.{Taps, Hold, Release}
 use Rattle.model.specs.Model.{is_top}
 use Rattle.places.specs.Places.{action_in, dimming_in}
 use Rattle.places.specs.declared.Action.{Action}
@@ -37,11 +37,11 @@ taps_in_normal all paddle taps c =
     else unwritten c
 
 -- 01, Paddles, 6 and 7. A Release stops, whether the load can dim or not.
-unfoldable pub acted_in_normal : List ℕ → ℕ → Gesture → Core → Effect
-acted_in_normal all paddle Nothing c = unwritten c
-acted_in_normal all paddle (Taps n) c = taps_in_normal all paddle n c
-acted_in_normal all paddle Hold c = unwritten (holding all paddle c)
-acted_in_normal all paddle Release c = unwritten (stopping paddle c)
+unfoldable pub acted_in_normal : List ℕ → ℕ → Option Gesture → Core → Effect
+acted_in_normal all paddle None c = unwritten c
+acted_in_normal all paddle (Some (Taps n)) c = taps_in_normal all paddle n c
+acted_in_normal all paddle (Some Hold) c = unwritten (holding all paddle c)
+acted_in_normal all paddle (Some Release) c = unwritten (stopping paddle c)
 
 -- 01, Paddles, 8: two taps leave Setup, ten set the factory values.
 unfoldable pub taps_in_setup : ℕ → Core → Effect
@@ -51,11 +51,11 @@ taps_in_setup taps c =
     else unwritten c
 
 -- 01, Paddles, 8: nothing but taps acts in Setup.
-unfoldable pub acted_in_setup : Gesture → Core → Effect
-acted_in_setup Nothing c = unwritten c
-acted_in_setup (Taps n) c = taps_in_setup n c
-acted_in_setup Hold c = unwritten c
-acted_in_setup Release c = unwritten c
+unfoldable pub acted_in_setup : Option Gesture → Core → Effect
+acted_in_setup None c = unwritten c
+acted_in_setup (Some (Taps n)) c = taps_in_setup n c
+acted_in_setup (Some Hold) c = unwritten c
+acted_in_setup (Some Release) c = unwritten c
 
 -- 01, Paddles, 9: two taps leave Factory Default, one acts as in Normal, five do nothing.
 unfoldable pub taps_in_factory : List ℕ → ℕ → ℕ → Core → Effect
@@ -65,45 +65,45 @@ taps_in_factory all paddle taps c =
     else unwritten c
 
 -- 01, Paddles, 9: Hold and Release act as in Normal.
-unfoldable pub acted_in_factory : List ℕ → ℕ → Gesture → Core → Effect
-acted_in_factory all paddle Nothing c = unwritten c
-acted_in_factory all paddle (Taps n) c = taps_in_factory all paddle n c
-acted_in_factory all paddle Hold c = unwritten (holding all paddle c)
-acted_in_factory all paddle Release c = unwritten (stopping paddle c)
+unfoldable pub acted_in_factory : List ℕ → ℕ → Option Gesture → Core → Effect
+acted_in_factory all paddle None c = unwritten c
+acted_in_factory all paddle (Some (Taps n)) c = taps_in_factory all paddle n c
+acted_in_factory all paddle (Some Hold) c = unwritten (holding all paddle c)
+acted_in_factory all paddle (Some Release) c = unwritten (stopping paddle c)
 
 -- What a gesture does in each mode.
-unfoldable pub acted_in : Mode → List ℕ → ℕ → Gesture → Core → Effect
+unfoldable pub acted_in : Mode → List ℕ → ℕ → Option Gesture → Core → Effect
 acted_in Normal all paddle g c = acted_in_normal all paddle g c
 acted_in Setup all paddle g c = acted_in_setup g c
 acted_in Factory all paddle g c = acted_in_factory all paddle g c
 
 -- The mode meant is the one that the gesture finds.
-unfoldable pub acted : List ℕ → ℕ → Gesture → Core → Effect
+unfoldable pub acted : List ℕ → ℕ → Option Gesture → Core → Effect
 acted all paddle g c = acted_in c.mode all paddle g c
 
 -- What a gesture writes, by the mode that it finds and by nothing else.
-unfoldable pub writes : Mode → Gesture → Write
-writes Normal Nothing = Unwritten
-writes Normal (Taps n) = if eqb n 5 then Count Setups else Unwritten
-writes Normal Hold = Unwritten
-writes Normal Release = Unwritten
-writes Setup Nothing = Unwritten
-writes Setup (Taps n) = if eqb n 10 then FactoryValues else Unwritten
-writes Setup Hold = Unwritten
-writes Setup Release = Unwritten
+unfoldable pub writes : Mode → Option Gesture → Write
+writes Normal None = Unwritten
+writes Normal (Some (Taps n)) = if eqb n 5 then Count Setups else Unwritten
+writes Normal (Some Hold) = Unwritten
+writes Normal (Some Release) = Unwritten
+writes Setup None = Unwritten
+writes Setup (Some (Taps n)) = if eqb n 10 then FactoryValues else Unwritten
+writes Setup (Some Hold) = Unwritten
+writes Setup (Some Release) = Unwritten
 writes Factory g = Unwritten
 
 -- Which mode a gesture leaves, by the mode that it finds and by nothing else.
-unfoldable pub leads : Mode → Gesture → Mode
-leads Normal Nothing = Normal
-leads Normal (Taps n) = if eqb n 5 then Setup else Normal
-leads Normal Hold = Normal
-leads Normal Release = Normal
-leads Setup Nothing = Setup
-leads Setup (Taps n) = if eqb n 2 then Normal else if eqb n 10 then Factory else Setup
-leads Setup Hold = Setup
-leads Setup Release = Setup
-leads Factory Nothing = Factory
-leads Factory (Taps n) = if eqb n 2 then Normal else Factory
-leads Factory Hold = Factory
-leads Factory Release = Factory
+unfoldable pub leads : Mode → Option Gesture → Mode
+leads Normal None = Normal
+leads Normal (Some (Taps n)) = if eqb n 5 then Setup else Normal
+leads Normal (Some Hold) = Normal
+leads Normal (Some Release) = Normal
+leads Setup None = Setup
+leads Setup (Some (Taps n)) = if eqb n 2 then Normal else if eqb n 10 then Factory else Setup
+leads Setup (Some Hold) = Setup
+leads Setup (Some Release) = Setup
+leads Factory None = Factory
+leads Factory (Some (Taps n)) = if eqb n 2 then Normal else Factory
+leads Factory (Some Hold) = Factory
+leads Factory (Some Release) = Factory

@@ -13,14 +13,17 @@ use writes::Write;
 
 // In Setup nothing but taps acts.
 #[tactic(auto, unfolding(crate::specs::Gestures::acted, crate::specs::Gestures::acted_in, crate::specs::Gestures::acted_in_normal, crate::specs::Gestures::acted_in_setup, crate::specs::Gestures::acted_in_factory))]
-pub fn act(core: Core, all: &[u8; 256], paddle: u8, gesture: Gesture) -> Effect
+pub fn act(core: Core, all: &[u8; 256], paddle: u8, gesture: Option<Gesture>) -> Effect
     ensures { result ≡ acted all.now paddle gesture core }
 {
+    let Some(gesture) = gesture else {
+        return core.unwritten();
+    };
     match (core.mode, gesture) {
         (Mode::Normal, Gesture::Taps(taps)) => taps_in_normal(core, all, paddle, taps),
         (Mode::Setup, Gesture::Taps(taps)) => taps_in_setup(core, taps),
         (Mode::Factory, Gesture::Taps(taps)) => taps_in_factory(core, all, paddle, taps),
-        (Mode::Setup, _) | (_, Gesture::Nothing) => core.unwritten(),
+        (Mode::Setup, _) => core.unwritten(),
         (_, Gesture::Hold) => holding(core, all, paddle).unwritten(),
         (_, Gesture::Release) => core.stopping(paddle).unwritten(),
     }

@@ -19,7 +19,7 @@ use Rattle.vault.specs.declared.Mode.{Mode}
 use Rattle.vault.specs.declared.Mode.TheVariants.{Normal, Setup, Factory}
 use Rattle.packet.proofs.Laws.{message_length}
 use Rattle.paddle.specs.declared.Gesture.{Gesture}
-use Rattle.paddle.specs.declared.Gesture.TheVariants.{Nothing, Taps}
+use Rattle.paddle.specs.declared.Gesture.TheVariants.{Taps}
 use Rattle.model.specs.Model.{transmit_place}
 use Rattle.post.specs.Promises.{Each, Carries}
 use Rattle.herald.specs.Promises.{AnnouncedReads, Announces, Hides, CaseJ}
@@ -47,38 +47,38 @@ announced_reads all mode paddle g p =
     (carried true (network_in all) link (unit_in all) m (omega (arith, few_bytes (gesture_message all mode paddle g p)))) tt
 
 -- No number sends nothing, and nor does number 15.
-pub announced_unnumbered : (all : List ℕ) (mode : Mode) (paddle : ℕ) (g : Gesture) (p : Percent)
+pub announced_unnumbered : (all : List ℕ) (mode : Mode) (paddle : ℕ) (g : Option Gesture) (p : Percent)
     → command_number mode (transmit_in all paddle) g ≡ None → announced all mode paddle g p ≡ []
 unfolding announced gesture_message bytes_of enveloped
 announced_unnumbered all mode paddle g p e = rw e (both (λ l. l ≡ []) (valid (transmit_in all paddle).link) refl refl)
 
-pub announced_silent : (all : List ℕ) (mode : Mode) (paddle : ℕ) (g : Gesture) (p : Percent) (n : ℕ)
+pub announced_silent : (all : List ℕ) (mode : Mode) (paddle : ℕ) (g : Option Gesture) (p : Percent) (n : ℕ)
     → command_number mode (transmit_in all paddle) g ≡ Some n → n % 16 ≡ 15 → announced all mode paddle g p ≡ []
 unfolding announced gesture_message chosen bytes_of enveloped
 announced_silent all mode paddle g p n is e = rw (is, e) (both (λ l. l ≡ []) (valid (transmit_in all paddle).link) refl refl)
 
 -- A link that is not valid sends nothing.
-pub announced_unlinked : (all : List ℕ) (mode : Mode) (paddle : ℕ) (g : Gesture) (p : Percent)
+pub announced_unlinked : (all : List ℕ) (mode : Mode) (paddle : ℕ) (g : Option Gesture) (p : Percent)
     → valid (transmit_in all paddle).link ≡ false → announced all mode paddle g p ≡ []
 unfolding announced
 announced_unlinked all mode paddle g p e = rw e
 
 -- Tap counts other than one and two have no number.
 pub other_taps : (all : List ℕ) (mode : Mode) (paddle taps : ℕ) → (taps ≡ 1 → ⊥) → (taps ≡ 2 → ⊥)
-    → command_number mode (transmit_in all paddle) (Taps taps) ≡ None
+    → command_number mode (transmit_in all paddle) (Some (Taps taps)) ≡ None
 unfolding command_number gesture_number
 other_taps all Normal paddle taps one two = rw (ne_eqb taps 1 one, ne_eqb taps 2 two)
 other_taps all Setup paddle taps one two = refl
 other_taps all Factory paddle taps one two = rw (ne_eqb taps 1 one, ne_eqb taps 2 two)
 
 -- So has no gesture at all.
-pub no_gesture : (all : List ℕ) (mode : Mode) (paddle : ℕ) → command_number mode (transmit_in all paddle) Nothing ≡ None
+pub no_gesture : (all : List ℕ) (mode : Mode) (paddle : ℕ) → command_number mode (transmit_in all paddle) None ≡ None
 unfolding command_number gesture_number
 no_gesture all Normal paddle = refl
 no_gesture all Setup paddle = refl
 no_gesture all Factory paddle = refl
 
-pub announced_one : (all : List ℕ) (mode : Mode) (paddle : ℕ) (g : Gesture) (p : Percent) → length (announced all mode paddle g p) ≤ 1
+pub announced_one : (all : List ℕ) (mode : Mode) (paddle : ℕ) (g : Option Gesture) (p : Percent) → length (announced all mode paddle g p) ≤ 1
 unfolding sent_of
 announced_one all mode paddle g p =
     let n = note_of all mode paddle g p in
@@ -96,9 +96,9 @@ announces all paddle p =
           (omega arith, omega (arith, ap length c.bytes, few_bytes (gesture_message all mode paddle g p))))
           (announced_reads all mode paddle g p);
       setup = λ g. announced_unnumbered all Setup paddle g p refl;
-      nothing = λ mode. announced_unnumbered all mode paddle Nothing p (no_gesture all mode paddle);
-      double = announced_unnumbered all Factory paddle (Taps 2) p refl;
-      others = λ mode taps one two. announced_unnumbered all mode paddle (Taps taps) p (other_taps all mode paddle taps one two);
+      nothing = λ mode. announced_unnumbered all mode paddle None p (no_gesture all mode paddle);
+      double = announced_unnumbered all Factory paddle (Some (Taps 2)) p refl;
+      others = λ mode taps one two. announced_unnumbered all mode paddle (Some (Taps taps)) p (other_taps all mode paddle taps one two);
       silent = λ mode g n is e. announced_silent all mode paddle g p n is e;
       unnumbered = λ mode g e. announced_unnumbered all mode paddle g p e;
       unlinked = λ mode g e. announced_unlinked all mode paddle g p (rw e);
@@ -137,7 +137,7 @@ unfolding chosen
 numbered_apart all None p = refl
 numbered_apart all (Some number) p = rw (entry_apart all (number % 16))
 
-pub announced_apart : (all : List ℕ) (mode : Mode) (paddle : ℕ) (g : Gesture) (p : Percent)
+pub announced_apart : (all : List ℕ) (mode : Mode) (paddle : ℕ) (g : Option Gesture) (p : Percent)
     → announced (apart all) mode paddle g p ≡ announced all mode paddle g p
 unfolding announced gesture_message
 announced_apart all mode paddle g p =

@@ -1,5 +1,5 @@
 -- What the code and the proofs are cut by: no promise under the roof needs a definition of this file.
-use Rattle.std.specs.Prelude.{◌≡◌, List, ℕ, if◌then◌else◌}
+use Rattle.std.specs.Prelude.{◌≡◌, List, ℕ, if◌then◌else◌, Option}
 use Rattle.units.specs.declared.Percent.{Percent}
 use Rattle.units.specs.Units.{percent}
 use Rattle.vault.specs.declared.Mode.{Mode}
@@ -11,7 +11,7 @@ use Rattle.herald.specs.Herald.{gesture_message, announced}
 use Rattle.post.specs.Code.{note, no_note, sent_of}
 
 -- The note of a gesture, with network, source and link as the registers then stand.
-unfoldable pub note_of : List ℕ → Mode → ℕ → Gesture → Percent → Note
+unfoldable pub note_of : List ℕ → Mode → ℕ → Option Gesture → Percent → Note
 note_of all mode paddle g percent =
     if valid (transmit_in all paddle).link
     then note (network_in all) (unit_in all) (transmit_in all paddle).link (gesture_message all mode paddle g percent)
@@ -20,5 +20,5 @@ note_of all mode paddle g percent =
 -- The packets of a gesture's note are those that the gesture announces.
 abbrev pub NoteSent : Type 0
 NoteSent =
-    (all : List ℕ) (mode : Mode) (paddle : ℕ) (g : Gesture) (p : Percent)
+    (all : List ℕ) (mode : Mode) (paddle : ℕ) (g : Option Gesture) (p : Percent)
     → sent_of (note_of all mode paddle g p) ≡ announced all mode paddle g p

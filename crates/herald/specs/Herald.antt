@@ -4,7 +4,7 @@ use Rattle.units.specs.declared.Percent.{Percent}
 use Rattle.vault.specs.declared.Mode.{Mode}
 use Rattle.vault.specs.declared.Mode.TheVariants.{Normal, Setup, Factory}
 use Rattle.paddle.specs.declared.Gesture.{Gesture}
-use Rattle.paddle.specs.declared.Gesture.TheVariants.{Nothing, Taps, Hold, Release}
+use Rattle.paddle.specs.declared.Gesture.TheVariants.{Taps, Hold, Release}
 use Rattle.places.specs.Places.{transmit_in, entry_in}
 use Rattle.registers.specs.Registers.{valid}
 use Rattle.places.specs.declared.Transmit.{Transmit}
@@ -22,14 +22,14 @@ abbrev pub report : ℕ
 report = 14
 
 -- 01, Paddles, 12: the command number of a gesture, one for each of the four that send. That of a double is handed in.
-unfoldable pub gesture_number : Transmit → Option ℕ → Gesture → Option ℕ
-gesture_number t double Nothing = None
-gesture_number t double (Taps taps) = if eqb taps 1 then Some t.single else if eqb taps 2 then double else None
-gesture_number t double Hold = Some t.hold
-gesture_number t double Release = Some t.release
+unfoldable pub gesture_number : Transmit → Option ℕ → Option Gesture → Option ℕ
+gesture_number t double None = None
+gesture_number t double (Some (Taps taps)) = if eqb taps 1 then Some t.single else if eqb taps 2 then double else None
+gesture_number t double (Some Hold) = Some t.hold
+gesture_number t double (Some Release) = Some t.release
 
 -- 01, Paddles, 12: no gesture sends in Setup, and no double in Factory Default.
-unfoldable pub command_number : Mode → Transmit → Gesture → Option ℕ
+unfoldable pub command_number : Mode → Transmit → Option Gesture → Option ℕ
 command_number Normal t g = gesture_number t (Some t.double) g
 command_number Setup t g = None
 command_number Factory t g = gesture_number t None g
@@ -60,11 +60,11 @@ numbered all None percent = Empty
 numbered all (Some number) percent = chosen all number percent
 
 -- The message of a paddle's gesture, in the mode that it finds.
-unfoldable pub gesture_message : List ℕ → Mode → ℕ → Gesture → Percent → Message
+unfoldable pub gesture_message : List ℕ → Mode → ℕ → Option Gesture → Percent → Message
 gesture_message all mode paddle g percent = numbered all (command_number mode (transmit_in all paddle) g) percent
 
 -- 01, Paddles, 12: a link packet, if the component has a valid link. The mode is the one before the gesture acts, the percent the one after.
-unfoldable pub announced : List ℕ → Mode → ℕ → Gesture → Percent → List (List ℕ)
+unfoldable pub announced : List ℕ → Mode → ℕ → Option Gesture → Percent → List (List ℕ)
 announced all mode paddle g percent =
     if valid (transmit_in all paddle).link
     then enveloped (headed all true (transmit_in all paddle).link) (bytes_of (gesture_message all mode paddle g percent))

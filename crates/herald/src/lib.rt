@@ -26,7 +26,13 @@ const ABSENT: u8 = 255;
 
 // What a paddle's gesture sends, in the mode that it finds; the percent is the one after the act.
 #[tactic(auto, unfolding(crate::specs::Code::note_of, crate::specs::Herald::gesture_message))]
-pub fn announce(all: &[u8; 256], mode: Mode, paddle: u8, gesture: Gesture, percent: Percent) -> Note
+pub fn announce(
+    all: &[u8; 256],
+    mode: Mode,
+    paddle: u8,
+    gesture: Option<Gesture>,
+    percent: Percent,
+) -> Note
     ensures { result ≡ note_of all.now mode paddle gesture percent }
 {
     let transmit = places::transmit_of(all, paddle);
@@ -47,14 +53,14 @@ pub fn announce(all: &[u8; 256], mode: Mode, paddle: u8, gesture: Gesture, perce
 
 // The command number of a gesture in a mode, if it sends: none in Setup, and no double in Factory Default.
 #[tactic(auto, unfolding(crate::specs::Herald::command_number, crate::specs::Herald::gesture_number))]
-fn number(mode: Mode, transmit: Transmit, gesture: Gesture) -> Option<u8>
+fn number(mode: Mode, transmit: Transmit, gesture: Option<Gesture>) -> Option<u8>
     ensures { result ≡ command_number mode transmit gesture }
 {
-    match (mode, gesture) {
+    match (mode, gesture?) {
         (Mode::Setup, _) | (Mode::Factory, Gesture::Taps(2)) => None,
         (_, Gesture::Taps(1)) => Some(transmit.single),
         (_, Gesture::Taps(2)) => Some(transmit.double),
-        (_, Gesture::Taps(_) | Gesture::Nothing) => None,
+        (_, Gesture::Taps(_)) => None,
         (_, Gesture::Hold) => Some(transmit.hold),
         (_, Gesture::Release) => Some(transmit.release),
     }

@@ -1,5 +1,5 @@
 -- A tick in place, over what its callees promise.
-use Rattle.std.specs.Prelude.{◌≡◌, ℕ, ◌+◌, ◌<◌, Bool, true, false, List, [], ◌∷◌, Option, length, get_or, drop}
+use Rattle.std.specs.Prelude.{◌≡◌, ℕ, ◌+◌, ◌<◌, Bool, true, false, List, [], ◌∷◌, Option, length, get_or, drop, Some, None}
 use mathlib.Core.Path.{refl, sym, ap, subst, ◌∙◌}
 use native.Mathlib.Numerals.{add-one}
 use lib.Seq.{drop-cons}
@@ -12,7 +12,7 @@ use Rattle.vault.specs.declared.Mode.{Mode}
 use Rattle.dimmer.specs.Dimmer.{ticked}
 use Rattle.dimmer.specs.declared.Dimmer.{Dimmer}
 use Rattle.paddle.specs.declared.Gesture.{Gesture}
-use Rattle.paddle.specs.declared.Gesture.TheVariants.{Nothing, Taps}
+use Rattle.paddle.specs.declared.Gesture.TheVariants.{Taps}
 use Rattle.writes.specs.Writes.{applied, change_of}
 use Rattle.acts.specs.Core.{aged, entering, saved}
 use Rattle.gestures.specs.Gestures.{leads, writes}
@@ -63,17 +63,17 @@ passes c n c₁ n₁ save save' lamp lamp' c₂ c₃ moves reads runs lit ticks 
 pub shifts_all :
     (taps : ℕ) (c n all : List ℕ) (mode to : Mode) (c₁ n₁ : List ℕ) (l₀ l₁ l₂ : Lamp) (c₂ n₂ n₃ all₁ c₃ all₂ : List ℕ)
     → Sized c n → mode ≡ mode_in n → Moves c n c₁ n₁ → l₀ ≡ lamp_of c₁ n₁ → l₁ ≡ next_lamp l₀ → l₂ ≡ entered l₁ → c₂ ≡ kept_timers l₂ c₁
-    → to ≡ leads mode (Taps taps) → n₂ ≡ kept_mode to n₁ → Writes mode taps n₂ all n₃ all₁ → Saves c₂ n₃ all₁ c₃ all₂
+    → to ≡ leads mode (Some (Taps taps)) → n₂ ≡ kept_mode to n₁ → Writes mode taps n₂ all n₃ all₁ → Saves c₂ n₃ all₁ c₃ all₂
     → Shifts taps c n all c₃ n₃ all₂
 unfolding core_of aged entering saved kept_numbers next_lamp entered
 shifts_all taps c n all mode to c₁ n₁ l₀ l₁ l₂ c₂ n₂ n₃ all₁ c₃ all₂ sized is moves lit ticks enters timed leads' moded wrote saves =
     let k = core_of c n in
     let d = ticked (dimmer_of c n) in
     let next = shifted taps k in
-    let w = changed (change_of (writes (mode_in n) (Taps taps)) []) (password_of n) in
+    let w = changed (change_of (writes (mode_in n) (Some (Taps taps))) []) (password_of n) in
     let same : lamp_of c₁ n₁ ≡ lamp_of c n = rw (moves.counted, moves.numbered) (lamp_of_course d.motion c _ ∙ lamp_of_levels d c n) in
     let lamps : l₂ ≡ entered (next_lamp (lamp_of c n)) = enters ∙ ap entered (ticks ∙ ap next_lamp (lit ∙ same)) in
-    let goes : to ≡ leads (mode_in n) (Taps taps) = leads' ∙ rw is in
+    let goes : to ≡ leads (mode_in n) (Some (Taps taps)) = leads' ∙ rw is in
     let own : password_of n₂ ≡ password_of n = rw (moded, moves.numbered) (password_of_mode to _ ∙ password_of_levels d n) in
     let keeps = shift_keeps c n next w sized refl refl in
     let counted : c₂ ≡ kept_counters next c = timed ∙ rw (lamps, moves.counted) keeps.0 in
@@ -92,7 +92,7 @@ shifts_all taps c n all mode to c₁ n₁ l₀ l₁ l₂ c₂ n₂ n₃ all₁ c
       registers =
           saves.registers
           ∙ ap (λ (x : Core). applied (saved x).write [] all₁) back
-          ∙ ap (applied (saved next).write []) (wrote.registers ∙ ap (λ (m : Mode). applied (writes m (Taps taps)) [] all) is);
+          ∙ ap (applied (saved next).write []) (wrote.registers ∙ ap (λ (m : Mode). applied (writes m (Some (Taps taps))) [] all) is);
     }
 
 -- What leaves the password alone leaves its bytes as they are.
@@ -102,5 +102,5 @@ keeps_password n = password_same n
 
 -- The loop over the gestures: the next one stands in front of the others.
 pub beside_next :
-    (gs : List Gesture) (i : ℕ) (so_far : Option ℕ) → i < length gs → alongside so_far (drop i gs) ≡ alongside so_far (get_or gs i Nothing ∷ drop (i + 1) gs)
-beside_next gs i so_far low = rw (add-one, drop-cons gs i Nothing low)
+    (gs : List (Option Gesture)) (i : ℕ) (so_far : Option ℕ) → i < length gs → alongside so_far (drop i gs) ≡ alongside so_far (get_or gs i None ∷ drop (i + 1) gs)
+beside_next gs i so_far low = rw (add-one, drop-cons gs i None low)

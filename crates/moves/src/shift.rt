@@ -1,5 +1,5 @@
 // A tick whose one gesture is a run of taps that moves the mode. It sends nothing.
-ghost use Rattle.std.specs.Prelude.{◌≡◌};
+ghost use Rattle.std.specs.Prelude.{◌≡◌, Some};
 ghost use Rattle.paddle.specs.declared.Gesture.TheVariants.{Taps};
 ghost use Rattle.gestures.specs.Gestures.{leads};
 ghost use Rattle.moves.specs.Code.{lone, shifts, Shifts, Writes};
@@ -15,14 +15,14 @@ use writes::{Write, apply, password};
 
 // The taps of a tick that completes one run of them and nothing else.
 #[tactic(auto, using(crate::proofs::Laws::beside_next), unfolding(crate::specs::Code::alongside, crate::specs::Code::lone))]
-pub fn lone(gestures: [Gesture; PADDLES]) -> Option<u8>
+pub fn lone(gestures: [Option<Gesture>; PADDLES]) -> Option<u8>
     ensures { result ≡ lone gestures }
 {
     let mut so_far = None;
     for gesture in gestures {
         match (gesture, so_far) {
-            (Gesture::Nothing, _) => {}
-            (Gesture::Taps(taps), None) => so_far = Some(taps),
+            (None, _) => {}
+            (Some(Gesture::Taps(taps)), None) => so_far = Some(taps),
             _ => return None,
         }
     }
@@ -61,7 +61,7 @@ pub fn shift(
 // The mode that taps lead to.
 #[tactic(auto, unfolding(gestures::specs::Gestures::leads))]
 fn led(mode: Mode, taps: u8) -> Mode
-    ensures { result ≡ leads mode (Taps taps) }
+    ensures { result ≡ leads mode (Some (Taps taps)) }
 {
     match (mode, taps) {
         (Mode::Normal, 5) => Mode::Setup,

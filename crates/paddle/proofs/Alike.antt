@@ -1,5 +1,5 @@
 -- What does not matter of a paddle: how long it has stood, and what is left of timers that nothing waits for.
-use Rattle.std.specs.Prelude.{if◌then◌else◌}
+use Rattle.std.specs.Prelude.{if◌then◌else◌, Some, None}
 use mathlib.Core.Bool.{Bool, true, false, ◌||◌}
 use mathlib.Core.Path.{◌≡◌, refl, ap, sym, ◌∙◌}
 use Prim.Native.Nat.{ℕ, zero, suc}
@@ -9,7 +9,7 @@ use borrow.Author.Tests.{ne_eqb}
 use Rattle.timers.specs.Timers.{less}
 use Rattle.paddle.specs.declared.Contact.{Contact}
 use Rattle.paddle.specs.declared.Contact.TheVariants.{Local, Slave}
-use Rattle.paddle.specs.declared.Gesture.TheVariants.{Nothing, Hold}
+use Rattle.paddle.specs.declared.Gesture.TheVariants.{Hold}
 use Rattle.paddle.specs.declared.Paddle.{Paddle}
 use Rattle.paddle.specs.Paddle.{paddle, fresh_paddle, down, with_contact, hold_from, pressed, tapped, ended, ending, goes_up, released, gesture_up}
 use Rattle.paddle.specs.Paddle.{ends, closing, completed, gesture, left, taps_kept, next_paddle}
@@ -22,8 +22,8 @@ unfolding essence gesture completed ends down
 essence_gesture p = at (down p) p.taps
   where
     at : (d : Bool) (taps : ℕ)
-        → (if (if d then eqb (if d then p.hold else 0) 1 else leb (heeded taps p.gap) 1) then if d then Hold else closing taps else Nothing)
-        ≡ (if (if d then eqb p.hold 1 else leb p.gap 1) then if d then Hold else closing taps else Nothing)
+        → (if (if d then eqb (if d then p.hold else 0) 1 else leb (heeded taps p.gap) 1) then if d then Some Hold else closing taps else None)
+        ≡ (if (if d then eqb p.hold 1 else leb p.gap 1) then if d then Some Hold else closing taps else None)
     at true taps = refl
     at false zero = closing_none true ∙ sym (closing_none (leb p.gap 1))
     at false (suc taps) = rw (ne_eqb (suc taps) 0 (omega arith))

@@ -1,5 +1,5 @@
 -- What holds of every paddle, of any number: many ticks at once, the wait for a gesture, presses by their length.
-use Rattle.std.specs.Prelude.{if◌then◌else◌}
+use Rattle.std.specs.Prelude.{if◌then◌else◌, Option, Some, None}
 use mathlib.Core.Bool.{Bool, true, false, ◌||◌, or-true, and-false, and-not_self}
 use mathlib.Core.Path.{◌≡◌, refl, ap, sym, ◌∙◌}
 use Prim.Native.Nat.{ℕ, zero, suc, ◌-◌, ◌<◌, ◌≤◌, min, max}
@@ -12,7 +12,7 @@ use Rattle.timers.proofs.Laws.{less_none, less_more}
 use Rattle.paddle.specs.declared.Contact.{Contact}
 use Rattle.paddle.specs.declared.Contact.TheVariants.{Local, Slave}
 use Rattle.paddle.specs.declared.Gesture.{Gesture}
-use Rattle.paddle.specs.declared.Gesture.TheVariants.{Nothing, Hold, Release}
+use Rattle.paddle.specs.declared.Gesture.TheVariants.{Hold, Release}
 use Rattle.paddle.specs.declared.Paddle.{Paddle}
 use Rattle.paddle.specs.Paddle.{hold_ticks, paddle, down, with_contact, hold_from, pressed, one_tap_more, tapped, ended, ending, goes_up, released, gesture_up}
 use Rattle.paddle.specs.Paddle.{ends, closing, completed, gesture, left, taps_kept, next_paddle}
@@ -44,8 +44,8 @@ dropped {e} {k} {n} taps at =
     (λ (h : n < k). simp (at.early h, le-ltb k n (omega arith), le-ltb k (suc n) (omega arith)))
 
 -- There the gesture comes, and then no more.
-given : {e : Bool} {k n : ℕ} (g : ℕ → Gesture) (taps : ℕ) → Ends e k n → (k < n → (if e then g 0 else Nothing) ≡ Nothing)
-    → (if e then g (if ltb k n then 0 else taps) else Nothing) ≡ (if eqb k n then g taps else Nothing)
+given : {e : Bool} {k n : ℕ} (g : ℕ → Option Gesture) (taps : ℕ) → Ends e k n → (k < n → (if e then g 0 else None) ≡ None)
+    → (if e then g (if ltb k n then 0 else taps) else None) ≡ (if eqb k n then g taps else None)
 given {e} {k} {n} g taps at late =
     three_ways k n
     (λ (h : k < n). simp (lt-ltb k n h, ne_eqb k n (omega arith)) (late h))
@@ -87,18 +87,18 @@ taps_more false n hold gap taps =
     (λ (h : taps ≤ 0). let z : taps ≡ 0 = omega arith in simp z (either 0 (leb (gap - n) 1)))
 
 -- A run without taps closes without a gesture.
-pub closing_none : (e : Bool) → (if e then closing 0 else Nothing) ≡ Nothing
+pub closing_none : (e : Bool) → (if e then closing 0 else None) ≡ None
 unfolding closing
-closing_none e = either Nothing e
+closing_none e = either None e
 
 gesture_more : (d : Bool) (n hold gap taps : ℕ)
     → (if (if d then eqb (if d then less_by n hold else hold) 1 else leb (less_by n gap) 1)
-    then if d then Hold else closing (if past n (if d then wait_for hold hold else wait_for taps gap) then 0 else taps) else Nothing)
-    ≡ (if due n (if d then wait_for hold hold else wait_for taps gap) then if d then Hold else closing taps else Nothing)
+    then if d then Some Hold else closing (if past n (if d then wait_for hold hold else wait_for taps gap) then 0 else taps) else None)
+    ≡ (if due n (if d then wait_for hold hold else wait_for taps gap) then if d then Some Hold else closing taps else None)
 unfolding less less_by past due wait_for
 gesture_more true n hold gap taps =
     two_ways 0 hold
-    (λ (h : 0 < hold). simp (ne_eqb hold 0 (omega arith)) (given (λ _. Hold) taps (at_hold hold n h) (λ e. simp (ne_eqb (hold - n) 1 (omega arith)))))
+    (λ (h : 0 < hold). simp (ne_eqb hold 0 (omega arith)) (given (λ _. Some Hold) taps (at_hold hold n h) (λ e. simp (ne_eqb (hold - n) 1 (omega arith)))))
     (λ (h : hold ≤ 0). simp (eq-eqb hold 0 (omega arith), ne_eqb (hold - n) 1 (omega arith)))
 gesture_more false n hold gap taps =
     two_ways 0 taps
@@ -129,7 +129,7 @@ pub gesture_ticks : (n : ℕ) (p : Paddle) → gesture (paddle_ticks n p) ≡ ge
 gesture_ticks n p = ap gesture (sym (skip_ticks n p)) ∙ gesture_after_lem n p
 
 -- Where n is not the wait, nothing is completed.
-pub quiet : (n : ℕ) (p : Paddle) → due n (wait p) ≡ false → gesture (paddle_ticks n p) ≡ Nothing
+pub quiet : (n : ℕ) (p : Paddle) → due n (wait p) ≡ false → gesture (paddle_ticks n p) ≡ None
 unfolding gesture_after
 quiet n p e = gesture_ticks n p ∙ simp e
 
@@ -139,7 +139,7 @@ unfolding due
 due_once m n never e f = let z : ◌≡◌ {A = ℕ} 0 1 = cc in omega arith
 due_once m n (after k) e f = omega (arith, eqb-true k m e, eqb-true k n f)
 
-owed : (n : ℕ) (p : Paddle) (d : Bool) → due n (wait p) ≡ d → (gesture (paddle_ticks n p) ≡ Nothing → ⊥) → due n (wait p) ≡ true
+owed : (n : ℕ) (p : Paddle) (d : Bool) → due n (wait p) ≡ d → (gesture (paddle_ticks n p) ≡ None → ⊥) → due n (wait p) ≡ true
 owed n p true e some = e
 owed n p false e some = absurd (some (quiet n p e))
 
@@ -196,7 +196,7 @@ unfolding pressed hold_from
 pressed_again c p e = simp (stays c p true e, touched_down c p e)
 
 -- 01, Answer numbers, 4: nor does letting go what is up, and there is no gesture.
-pub released_again : (c : Contact) (p : Paddle) → touched c p ≡ false → (released c p ≡ p) × (gesture_up c p ≡ Nothing)
+pub released_again : (c : Contact) (p : Paddle) → touched c p ≡ false → (released c p ≡ p) × (gesture_up c p ≡ None)
 unfolding released gesture_up goes_up
 released_again c p e = simp (stays c p false e, and-not_self (down p)) (refl, refl)
 
@@ -208,7 +208,7 @@ pressed_over Slave p e = simp e
 
 -- 01, Paddles, 1: so does a release that leaves the paddle down.
 pub released_under : (c : Contact) (p : Paddle) → down (with_contact c false p) ≡ true
-    → (released c p ≡ with_contact c false p) × (gesture_up c p ≡ Nothing)
+    → (released c p ≡ with_contact c false p) × (gesture_up c p ≡ None)
 unfolding released gesture_up goes_up
 released_under c p e = simp (e, and-false (down p)) (refl, refl)
 
@@ -244,7 +244,7 @@ let_go_after n c hold gap taps =
 
 -- 01, Paddles, 2: too short a press is nothing; the gap goes on as if there had been none.
 pub too_short : (n : ℕ) (c : Contact) (hold gap taps : ℕ) → n < 60
-    → (press_for n c (raised hold gap taps) ≡ raised (180 - n) (gap - n) taps) × (gesture_for n c (raised hold gap taps) ≡ Nothing)
+    → (press_for n c (raised hold gap taps) ≡ raised (180 - n) (gap - n) taps) × (gesture_for n c (raised hold gap taps) ≡ None)
 unfolding ended ending less_by
 too_short n c hold gap taps h =
     let e = let_go_after n c hold gap taps in
@@ -252,7 +252,7 @@ too_short n c hold gap taps h =
 
 -- 01, Paddles, 2 and 3: a press of 60 to 179 ticks is counted, and the gap begins again.
 pub a_tap : (n : ℕ) (c : Contact) (hold gap taps : ℕ) → 60 ≤ n → n < 180
-    → (press_for n c (raised hold gap taps) ≡ raised (180 - n) 180 (one_tap_more taps)) × (gesture_for n c (raised hold gap taps) ≡ Nothing)
+    → (press_for n c (raised hold gap taps) ≡ raised (180 - n) 180 (one_tap_more taps)) × (gesture_for n c (raised hold gap taps) ≡ None)
 unfolding ended ending tapped less_by
 a_tap n c hold gap taps h k =
     let e = let_go_after n c hold gap taps in
@@ -260,7 +260,7 @@ a_tap n c hold gap taps h k =
 
 -- 01, Paddles, 2: after a longer one the taps are gone, and letting go is Release.
 pub a_hold : (n : ℕ) (c : Contact) (hold gap taps : ℕ) → 180 ≤ n
-    → (press_for n c (raised hold gap taps) ≡ raised 0 (gap - n) 0) × (gesture_for n c (raised hold gap taps) ≡ Release)
+    → (press_for n c (raised hold gap taps) ≡ raised 0 (gap - n) 0) × (gesture_for n c (raised hold gap taps) ≡ Some Release)
 unfolding ended ending less_by
 a_hold n c hold gap taps h =
     let e = let_go_after n c hold gap taps in
@@ -269,7 +269,7 @@ a_hold n c hold gap taps h =
 
 -- Hold comes in the 180th tick of the press and in no other.
 pub hold_comes : (n : ℕ) (c : Contact) (hold gap taps : ℕ)
-    → gesture (paddle_ticks n (pressed c (raised hold gap taps))) ≡ (if eqb 179 n then Hold else Nothing)
+    → gesture (paddle_ticks n (pressed c (raised hold gap taps))) ≡ (if eqb 179 n then Some Hold else None)
 unfolding gesture_after due wait wait_for completed pressed with_contact hold_from down less
 hold_comes n Local hold gap taps = gesture_ticks n (pressed Local (raised hold gap taps))
 hold_comes n Slave hold gap taps = gesture_ticks n (pressed Slave (raised hold gap taps))

@@ -1,10 +1,10 @@
 -- 01, Paddles, 1 to 5: the gestures of one paddle. The definitions are the same for every paddle of a switch.
-use Rattle.std.specs.Prelude.{Bool, true, false, not, ◌&&◌, ◌||◌, ℕ, ◌+◌, ltb, leb, eqb, if◌then◌else◌}
+use Rattle.std.specs.Prelude.{Bool, true, false, not, ◌&&◌, ◌||◌, ℕ, ◌+◌, ltb, leb, eqb, if◌then◌else◌, Option, Some, None}
 use Rattle.timers.specs.Timers.{less}
 use Rattle.paddle.specs.declared.Contact.{Contact}
 use Rattle.paddle.specs.declared.Contact.TheVariants.{Local, Slave}
 use Rattle.paddle.specs.declared.Gesture.{Gesture}
-use Rattle.paddle.specs.declared.Gesture.TheVariants.{Nothing, Taps, Hold, Release}
+use Rattle.paddle.specs.declared.Gesture.TheVariants.{Taps, Hold, Release}
 use Rattle.paddle.specs.declared.Paddle.{Paddle}
 
 -- 01, Paddles, 2: the ticks from the press to Hold.
@@ -64,8 +64,8 @@ unfoldable pub ended : Paddle → Paddle
 ended p = if eqb p.hold 0 then p else if leb p.hold tap_left then tapped p else p
 
 -- 01, Paddles, 2: the gesture when a press is over: Release after a Hold, else nothing.
-unfoldable pub ending : Paddle → Gesture
-ending p = if eqb p.hold 0 then Release else Nothing
+unfoldable pub ending : Paddle → Option Gesture
+ending p = if eqb p.hold 0 then Some Release else None
 
 -- The release edge that lets the paddle go: it was down, and no contact holds it down any more.
 unfoldable pub goes_up : Contact → Paddle → Bool
@@ -76,24 +76,24 @@ unfoldable pub released : Contact → Paddle → Paddle
 released contact p = if goes_up contact p then ended (with_contact contact false p) else with_contact contact false p
 
 -- The gesture of a release edge.
-unfoldable pub gesture_up : Contact → Paddle → Gesture
-gesture_up contact p = if goes_up contact p then ending (with_contact contact false p) else Nothing
+unfoldable pub gesture_up : Contact → Paddle → Option Gesture
+gesture_up contact p = if goes_up contact p then ending (with_contact contact false p) else None
 
 -- 01, Paddles, 2 and 4: whether the coming tick ends the run of taps: down, by Hold; up, by the last tick of the gap or one after it.
 unfoldable pub ends : Paddle → Bool
 ends p = if down p then eqb p.hold 1 else leb p.gap 1
 
 -- 01, Paddles, 4: the gesture of a run that closes; without taps there is none.
-unfoldable pub closing : ℕ → Gesture
-closing taps = if eqb taps 0 then Nothing else Taps taps
+unfoldable pub closing : ℕ → Option Gesture
+closing taps = if eqb taps 0 then None else Some (Taps taps)
 
 -- The gesture of the tick that ends the run.
-unfoldable pub completed : Paddle → Gesture
-completed p = if down p then Hold else closing p.taps
+unfoldable pub completed : Paddle → Option Gesture
+completed p = if down p then Some Hold else closing p.taps
 
 -- The gesture of a tick.
-unfoldable pub gesture : Paddle → Gesture
-gesture p = if ends p then completed p else Nothing
+unfoldable pub gesture : Paddle → Option Gesture
+gesture p = if ends p then completed p else None
 
 -- The ticks left before Hold, one tick later: they run only while the paddle is down.
 unfoldable pub left : Paddle → ℕ

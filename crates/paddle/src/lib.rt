@@ -4,7 +4,7 @@
 
 ghost use Rattle.std.specs.Prelude.{◌≡◌};
 ghost use Rattle.paddle.specs.Paddle.{fresh_paddle, down, pressed, released, gesture_up, with_contact, hold_from, ended, ending, tapped, one_tap_more};
-ghost use Rattle.paddle.specs.Code.{turn, completes_nothing};
+ghost use Rattle.paddle.specs.Code.{turn};
 
 // Ticks from the press to Hold.
 const HOLD: u8 = 180;
@@ -22,10 +22,9 @@ pub enum Contact {
     Slave,
 }
 
-// What a paddle completes at an event; `Taps` with how many.
+// A gesture that a paddle completes at an event; `Taps` with how many.
 #[derive(Clone, Copy)]
 pub enum Gesture {
-    Nothing,
     Taps(u8),
     Hold,
     Release,
@@ -41,21 +40,11 @@ pub struct Paddle {
     pub taps: u8,
 }
 
-// What an event makes of a paddle, and the gesture that it completes.
+// What an event makes of a paddle, and the gesture that it completes, if there is one.
 #[derive(Clone, Copy)]
 pub struct Turn {
     pub paddle: Paddle,
-    pub gesture: Gesture,
-}
-
-impl Gesture {
-    // Whether there is no gesture.
-    #[tactic(auto, unfolding(crate::specs::Code::completes_nothing))]
-    pub fn none(self) -> bool
-        ensures { result ≡ completes_nothing self }
-    {
-        matches!(self, Gesture::Nothing)
-    }
+    pub gesture: Option<Gesture>,
 }
 
 impl Paddle {
@@ -100,7 +89,7 @@ impl Paddle {
         }
         Turn {
             paddle: lifted,
-            gesture: Gesture::Nothing,
+            gesture: None,
         }
     }
 
@@ -140,18 +129,18 @@ impl Paddle {
         if hold == 0 {
             return Turn {
                 paddle: self,
-                gesture: Gesture::Release,
+                gesture: Some(Gesture::Release),
             };
         }
         if hold <= TAP {
             return Turn {
                 paddle: self.tapped(),
-                gesture: Gesture::Nothing,
+                gesture: None,
             };
         }
         Turn {
             paddle: self,
-            gesture: Gesture::Nothing,
+            gesture: None,
         }
     }
 

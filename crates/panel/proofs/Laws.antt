@@ -1,5 +1,6 @@
 -- Keeping paddles as they were read changes nothing, one that is kept leaves the others alone, and what was kept is read back.
-use Rattle.std.specs.Prelude.{if◌then◌else◌}
+use Rattle.std.specs.Prelude.{if◌then◌else◌, Option, Some, None}
+use Rattle.std.specs.Option.{is_none}
 use mathlib.Core.Bool.{Bool, true, false, not, ◌&&◌, ◌||◌, true≢false}
 use mathlib.Core.List.{List, [], ◌∷◌, map}
 use mathlib.Core.Path.{◌≡◌, refl, sym, ap, ◌∙◌}
@@ -17,10 +18,10 @@ use Rattle.timers.specs.Timers.{less}
 use Rattle.paddle.specs.Paddle.{paddle, fresh_paddle, down, pressed, released, gesture_up, ends, closing, completed, gesture, left, taps_kept, next_paddle}
 use Rattle.paddle.specs.declared.Contact.{Contact}
 use Rattle.paddle.specs.declared.Gesture.{Gesture}
-use Rattle.paddle.specs.declared.Gesture.TheVariants.{Nothing, Taps, Hold, Release}
+use Rattle.paddle.specs.declared.Gesture.TheVariants.{Taps, Hold}
 use Rattle.paddle.specs.declared.Paddle.{Paddle}
 use Rattle.paddle.specs.declared.Turn.{Turn}
-use Rattle.paddle.specs.Code.{turn, completes_nothing}
+use Rattle.paddle.specs.Code.{turn}
 use Rattle.model.specs.Model.{paddle_count, paddle_of, kind_of}
 use Rattle.panel.specs.Panel.{local_in, slave_in, contacts_number, contacts_index, taps_index, hold_index, gap_index, byte_count, paddle_from, paddles_from, paddles_of}
 use Rattle.panel.specs.Panel.{kept_contacts, kept_paddle, kept_from, kept_paddles, pressed_at, released_at, gesture_at, fresh_from, fresh_paddles}
@@ -259,8 +260,8 @@ down_contacts contacts =
     go (suc (suc (suc (suc n)))) h = absurd (omega arith)
 
 -- Loud is 'completes a gesture'.
-pub loud_gesture : (i : ℕ) (l : List ℕ) → loud_at i l ≡ not (completes_nothing (gesture (paddle_from i l)))
-unfolding loud_at paddle_from down ends completed closing gesture completes_nothing
+pub loud_gesture : (i : ℕ) (l : List ℕ) → loud_at i l ≡ not (is_none (gesture (paddle_from i l)))
+unfolding loud_at paddle_from down ends completed closing gesture
 loud_gesture i l =
     let taps = get_or l (taps_index i) 0 in
     rw (down_contacts (get_or l (contacts_index i) 0))
@@ -268,19 +269,16 @@ loud_gesture i l =
   where
     go : (taps : ℕ) (up held closed none : Bool)
         → (if up then closed && not none else held)
-        ≡ not (completes_nothing (if (if not up then held else closed) then (if not up then Hold else if none then Nothing else Taps taps) else Nothing))
+        ≡ not (is_none (if (if not up then held else closed) then (if not up then Some Hold else if none then None else Some (Taps taps)) else None))
     go taps true held true true = refl
     go taps true held true false = refl
     go taps true held false none = refl
     go taps false true closed none = refl
     go taps false false closed none = refl
 
-nothing : (g : Gesture) → completes_nothing g ≡ true → g ≡ Nothing
-unfolding completes_nothing
-nothing Nothing h = refl
-nothing (Taps n) h = absurd (true≢false (sym h))
-nothing Hold h = absurd (true≢false (sym h))
-nothing Release h = absurd (true≢false (sym h))
+nothing : (g : Option Gesture) → is_none g ≡ true → g ≡ None
+nothing None h = refl
+nothing (Some g) h = absurd (true≢false (sym h))
 
 not-true : (b : Bool) → not b ≡ true → b ≡ false
 not-true true h = absurd (true≢false (sym h))
@@ -290,11 +288,11 @@ not-false : (b : Bool) → not b ≡ false → b ≡ true
 not-false true h = refl
 not-false false h = absurd (true≢false h)
 
-quiet_at : (i : ℕ) (l : List ℕ) → loud_at i l ≡ false → completes_nothing (gesture (paddle_from i l)) ≡ true
+quiet_at : (i : ℕ) (l : List ℕ) → loud_at i l ≡ false → is_none (gesture (paddle_from i l)) ≡ true
 quiet_at i l h = not-false _ (sym (loud_gesture i l) ∙ h)
 
 -- Where the next tick is quiet no paddle has a gesture.
-quiet_from : (i n : ℕ) (l : List ℕ) → loud_from i n l ≡ false → map gesture (paddles_from i n l) ≡ replicate n Nothing
+quiet_from : (i n : ℕ) (l : List ℕ) → loud_from i n l ≡ false → map gesture (paddles_from i n l) ≡ replicate n None
 unfolding loud_from paddles_from
 quiet_from i zero l h = refl
 quiet_from i (suc n) l h =
@@ -303,17 +301,17 @@ quiet_from i (suc n) l h =
     let rest = quiet_from (suc i) n l still.1 in
     λ k. head k ∷ rest k
 
-pub quiet_gestures : (l : List ℕ) → quiet_bytes l ≡ true → map gesture (paddles_of l) ≡ replicate paddle_count Nothing
+pub quiet_gestures : (l : List ℕ) → quiet_bytes l ≡ true → map gesture (paddles_of l) ≡ replicate paddle_count None
 unfolding quiet_bytes
 quiet_gestures l h = quiet_from 0 paddle_count l (not-true _ h)
 
 -- A gesture uses up the taps, and without one they stay.
-taps_left : (p : Paddle) → taps_kept p ≡ (if completes_nothing (gesture p) then p.taps else 0)
-unfolding taps_kept gesture completed closing completes_nothing
+taps_left : (p : Paddle) → taps_kept p ≡ (if is_none (gesture p) then p.taps else 0)
+unfolding taps_kept gesture completed closing
 taps_left p = go (ends p) (down p) (eqb p.taps 0) refl
   where
     go : (e d z : Bool) → eqb p.taps 0 ≡ z
-        → (if e then 0 else p.taps) ≡ (if completes_nothing (if e then (if d then Hold else if z then Nothing else Taps p.taps) else Nothing) then p.taps else 0)
+        → (if e then 0 else p.taps) ≡ (if is_none (if e then (if d then Some Hold else if z then None else Some (Taps p.taps)) else None) then p.taps else 0)
     go false d z same = refl
     go true true z same = refl
     go true false true same = sym (eqb-true p.taps 0 same)
@@ -367,7 +365,7 @@ taps_same : (i : ℕ) (l : List ℕ) → set l (taps_index i) (paddle_from i l).
 unfolding paddle_from
 taps_same i l = set-get_or l (taps_index i) 0
 
-ran_still : (i : ℕ) (l : List ℕ) → i < paddle_count → completes_nothing (gesture (paddle_from i l)) ≡ true → ran_at i l ≡ kept_paddle i (next_paddle (paddle_from i l)) l
+ran_still : (i : ℕ) (l : List ℕ) → i < paddle_count → is_none (gesture (paddle_from i l)) ≡ true → ran_at i l ≡ kept_paddle i (next_paddle (paddle_from i l)) l
 ran_still i l low none = ap (ran_at i) (sym (taps_same i l)) ∙ ran_next i l (paddle_from i l).taps low (sym (taps_left (paddle_from i l) ∙ rw none))
 
 ran_at_lem : (i : ℕ) (l : List ℕ) → i < paddle_count → loud_at i l ≡ false → ran_at i l ≡ kept_paddle i (next_paddle (paddle_from i l)) l
@@ -375,25 +373,25 @@ ran_at_lem i l low h = ran_still i l low (quiet_at i l h)
 
 -- Used up by its gesture, or not, and then run.
 ran_used :
-    (i : ℕ) (l : List ℕ) (still : Bool) → i < paddle_count → completes_nothing (gesture (paddle_from i l)) ≡ still
+    (i : ℕ) (l : List ℕ) (still : Bool) → i < paddle_count → is_none (gesture (paddle_from i l)) ≡ still
     → ran_at i (if still then l else set l (taps_index i) 0) ≡ kept_paddle i (next_paddle (paddle_from i l)) l
 ran_used i l true low told = ran_still i l low told
 ran_used i l false low told = ran_next i l 0 low (sym (taps_left (paddle_from i l) ∙ rw told))
 
 pub ticks_at :
-    (i : ℕ) (l : List ℕ) (g : Gesture) (l₁ l' : List ℕ) → i < paddle_count
+    (i : ℕ) (l : List ℕ) (g : Option Gesture) (l₁ l' : List ℕ) → i < paddle_count
     → g ≡ gesture (paddle_from i l) → l₁ ≡ used_up i g l → l' ≡ ran_at i l₁ → TicksAt i l g l'
 unfolding used_up
 ticks_at i l g l₁ l' low is used ran =
     record { completed = is; paddles = ran ∙ ap (ran_at i) (used ∙ rw is) ∙ ran_used i l _ low refl }
 
 -- The gesture, by the bytes.
-pub gesture_none : (i : ℕ) (l : List ℕ) → loud_at i l ≡ false → Nothing ≡ gesture (paddle_from i l)
+pub gesture_none : (i : ℕ) (l : List ℕ) → loud_at i l ≡ false → None ≡ gesture (paddle_from i l)
 gesture_none i l quiet' = sym (nothing _ (quiet_at i l quiet'))
 
 gesture_loud :
     (i : ℕ) (l : List ℕ) (up : Bool) → loud_at i l ≡ true → eqb (get_or l (contacts_index i) 0 % 4) 0 ≡ up
-    → (if up then Taps (get_or l (taps_index i) 0) else Hold) ≡ gesture (paddle_from i l)
+    → (if up then Some (Taps (get_or l (taps_index i) 0)) else Some Hold) ≡ gesture (paddle_from i l)
 unfolding loud_at paddle_from down ends completed closing gesture
 gesture_loud i l up loud is =
     let taps = get_or l (taps_index i) 0 in
@@ -401,8 +399,8 @@ gesture_loud i l up loud is =
     (go taps (eqb (get_or l (contacts_index i) 0 % 4) 0) (eqb (get_or l (hold_index i) 0) 1) (leb (get_or l (gap_index i) 0) 1) (eqb taps 0) loud)
   where
     go : (taps : ℕ) (up held closed none : Bool) → (if up then closed && not none else held) ≡ true
-        → (if up then Taps taps else Hold)
-        ≡ (if (if not up then held else closed) then (if not up then Hold else if none then Nothing else Taps taps) else Nothing)
+        → (if up then Some (Taps taps) else Some Hold)
+        ≡ (if (if not up then held else closed) then (if not up then Some Hold else if none then None else Some (Taps taps)) else None)
     go taps true held true true h = absurd (true≢false (sym h))
     go taps true held true false h = refl
     go taps true held false none h = absurd (true≢false (sym h))
@@ -411,10 +409,10 @@ gesture_loud i l up loud is =
 
 pub gesture_taps :
     (i : ℕ) (l : List ℕ) → loud_at i l ≡ true → bit_and (get_or l (contacts_index i) 0) 3 ≡ 0
-    → Taps (get_or l (taps_index i) 0) ≡ gesture (paddle_from i l)
+    → Some (Taps (get_or l (taps_index i) 0)) ≡ gesture (paddle_from i l)
 gesture_taps i l loud up = gesture_loud i l true loud (eq-eqb _ _ (sym (and_mask _ 2) ∙ up))
 
-pub gesture_hold : (i : ℕ) (l : List ℕ) → loud_at i l ≡ true → (bit_and (get_or l (contacts_index i) 0) 3 ≡ 0 → ⊥) → Hold ≡ gesture (paddle_from i l)
+pub gesture_hold : (i : ℕ) (l : List ℕ) → loud_at i l ≡ true → (bit_and (get_or l (contacts_index i) 0) 3 ≡ 0 → ⊥) → Some Hold ≡ gesture (paddle_from i l)
 gesture_hold i l loud held = gesture_loud i l false loud (ne_eqb _ _ (λ e. held (and_mask _ 2 ∙ e)))
 
 loud_apart : (i n j : ℕ) (p : Paddle) (l : List ℕ) → j < i → i + n ≤ paddle_count → loud_from i n (kept_paddle j p l) ≡ loud_from i n l
@@ -423,7 +421,7 @@ loud_apart i zero j p l low fits = refl
 loud_apart i (suc n) j p l low fits =
     let same = paddle_apart j i p l (λ e. omega arith) (omega arith) (omega arith) in
     let at : loud_at i (kept_paddle j p l) ≡ loud_at i l =
-    loud_gesture i (kept_paddle j p l) ∙ (ap (λ (q : Paddle). not (completes_nothing (gesture q))) same ∙ sym (loud_gesture i l)) in
+    loud_gesture i (kept_paddle j p l) ∙ (ap (λ (q : Paddle). not (is_none (gesture q))) same ∙ sym (loud_gesture i l)) in
     rw (at, loud_apart (suc i) n j p l (omega arith) (omega arith))
 
 ran_from_lem :

@@ -1,4 +1,5 @@
 -- The loops over the paddles: what a paddle more adds to the first i of them.
+use Rattle.std.specs.Prelude.{Option}
 use mathlib.Core.Bool.{Bool, ◌||◌, or_assoc, or-false}
 use mathlib.Core.List.{List, [], ◌∷◌, ◌++◌, map}
 use mathlib.Core.Path.{◌≡◌, refl, sym, ap, ◌∙◌}
@@ -59,17 +60,17 @@ kept_apart k i (p ∷ ps) l low fits =
     kept_apart (suc k) i ps (kept_paddle k p l) (omega arith) fits ∙ paddle_apart k i p l (λ e. omega arith) (omega arith) fits
 
 -- The first i paddles have ticked, and their gestures are noted.
-pub record Ticking (start : List ℕ) (i : ℕ) (l : List ℕ) (gs : List Gesture) : Type 0 where
+pub record Ticking (start : List ℕ) (i : ℕ) (l : List ℕ) (gs : List (Option Gesture)) : Type 0 where
   pub long : length gs ≡ paddle_count
   pub completed : take i gs ≡ map gesture (paddles_from 0 i start)
   pub paddles : l ≡ kept_from 0 (map next_paddle (paddles_from 0 i start)) start
 
-pub ticking_begins : (l : List ℕ) (gs : List Gesture) → length gs ≡ paddle_count → Ticking l 0 l gs
+pub ticking_begins : (l : List ℕ) (gs : List (Option Gesture)) → length gs ≡ paddle_count → Ticking l 0 l gs
 unfolding paddles_from kept_from
 ticking_begins l gs long = record { long = long; completed = refl; paddles = refl }
 
 ticking_next :
-    (start : List ℕ) (i : ℕ) (l : List ℕ) (gs : List Gesture) (g : Gesture) (l' : List ℕ)
+    (start : List ℕ) (i : ℕ) (l : List ℕ) (gs : List (Option Gesture)) (g : Option Gesture) (l' : List ℕ)
     → Ticking start i l gs → i < paddle_count → TicksAt i l g l' → Ticking start (suc i) l' (set gs i g)
 ticking_next start i l gs g l' h low ticks =
     let ps = map next_paddle (paddles_from 0 i start) in
@@ -85,11 +86,11 @@ ticking_next start i l gs g l' h low ticks =
     }
 
 pub ticking_again :
-    (start : List ℕ) (i : ℕ) (l : List ℕ) (gs : List Gesture) (g : Gesture) (l' : List ℕ)
+    (start : List ℕ) (i : ℕ) (l : List ℕ) (gs : List (Option Gesture)) (g : Option Gesture) (l' : List ℕ)
     → Ticking start i l gs → i < paddle_count → TicksAt i l g l' → Ticking start (i + 1) l' (set gs i g)
 ticking_again start i l gs g l' h low ticks = rw add-one (ticking_next start i l gs g l' h low ticks)
 
-pub ticking_ends : (start : List ℕ) (l : List ℕ) (gs : List Gesture) → Ticking start paddle_count l gs → Ticks start gs l
+pub ticking_ends : (start : List ℕ) (l : List ℕ) (gs : List (Option Gesture)) → Ticking start paddle_count l gs → Ticks start gs l
 ticking_ends start l gs h =
     record {
       completed = sym (take_all paddle_count gs (rw h.long (omega arith))) ∙ h.completed;

@@ -1,24 +1,24 @@
 -- What the code and the proofs are cut by: no promise under the roof needs a definition of this file.
-use Rattle.std.specs.Prelude.{Bool, false, not, ◌&&◌, ◌||◌, List, map, ◌≡◌, ℕ, zero, suc, ◌%◌, eqb, leb, get_or, set, if◌then◌else◌}
+use Rattle.std.specs.Prelude.{Bool, false, not, ◌&&◌, ◌||◌, List, map, ◌≡◌, ℕ, zero, suc, ◌%◌, eqb, leb, get_or, set, if◌then◌else◌, Option}
 use Rattle.timers.specs.Timers.{less}
 use Rattle.paddle.specs.Paddle.{gesture, next_paddle}
 use Rattle.paddle.specs.declared.Gesture.{Gesture}
-use Rattle.paddle.specs.Code.{completes_nothing}
+use Rattle.std.specs.Option.{is_none}
 use Rattle.model.specs.Model.{paddle_count}
 use Rattle.panel.specs.Panel.{contacts_index, taps_index, hold_index, gap_index, paddle_from, paddles_of, kept_paddle, kept_paddles, released_at, gesture_at}
 
 -- A release edge: the gesture, and the paddles after it.
-pub record Lifts (contact : ℕ) (bytes : List ℕ) (g : Gesture) (bytes' : List ℕ) : Type 0 where
+pub record Lifts (contact : ℕ) (bytes : List ℕ) (g : Option Gesture) (bytes' : List ℕ) : Type 0 where
   pub completed : g ≡ gesture_at contact (paddles_of bytes)
   pub paddles : bytes' ≡ kept_paddles (released_at contact (paddles_of bytes)) bytes
 
 -- A tick of paddle i: its gesture, and the bytes after it.
-pub record TicksAt (i : ℕ) (bytes : List ℕ) (g : Gesture) (bytes' : List ℕ) : Type 0 where
+pub record TicksAt (i : ℕ) (bytes : List ℕ) (g : Option Gesture) (bytes' : List ℕ) : Type 0 where
   pub completed : g ≡ gesture (paddle_from i bytes)
   pub paddles : bytes' ≡ kept_paddle i (next_paddle (paddle_from i bytes)) bytes
 
 -- A tick: the gesture of each paddle, and the paddles after it.
-pub record Ticks (bytes : List ℕ) (gs : List Gesture) (bytes' : List ℕ) : Type 0 where
+pub record Ticks (bytes : List ℕ) (gs : List (Option Gesture)) (bytes' : List ℕ) : Type 0 where
   pub completed : gs ≡ map gesture (paddles_of bytes)
   pub paddles : bytes' ≡ kept_paddles (map next_paddle (paddles_of bytes)) bytes
 
@@ -43,8 +43,8 @@ unfoldable pub left_by : ℕ → ℕ → ℕ
 left_by contacts hold = if eqb (contacts % 4) 0 then hold else less hold
 
 -- A gesture of paddle i uses up its taps.
-unfoldable pub used_up : ℕ → Gesture → List ℕ → List ℕ
-used_up i g bytes = if completes_nothing g then bytes else set bytes (taps_index i) 0
+unfoldable pub used_up : ℕ → Option Gesture → List ℕ → List ℕ
+used_up i g bytes = if is_none g then bytes else set bytes (taps_index i) 0
 
 -- The timers of paddle i, one tick later.
 unfoldable pub ran_at : ℕ → List ℕ → List ℕ

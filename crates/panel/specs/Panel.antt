@@ -1,5 +1,5 @@
 -- The paddles in their bytes: of each in order its contacts, then of each its taps, then hold, then gap; and what an edge does to them.
-use Rattle.std.specs.Prelude.{Bool, List, [], ◌∷◌, ℕ, zero, suc, ◌+◌, ◌*◌, ◌/◌, ◌%◌, eqb, get_or, set, if◌then◌else◌}
+use Rattle.std.specs.Prelude.{Bool, List, [], ◌∷◌, ℕ, zero, suc, ◌+◌, ◌*◌, ◌/◌, ◌%◌, eqb, get_or, set, if◌then◌else◌, Option}
 use Rattle.words.specs.Words.{kept_at}
 use Rattle.paddle.specs.Paddle.{paddle, fresh_paddle, pressed, released, gesture_up}
 use Rattle.paddle.specs.declared.Gesture.{Gesture}
@@ -85,7 +85,7 @@ unfoldable pub released_at : ℕ → List Paddle → List Paddle
 released_at contact paddles = set paddles (paddle_of contact) (released (kind_of contact) (paddle_at contact paddles))
 
 -- The gesture that a release edge completes.
-unfoldable pub gesture_at : ℕ → List Paddle → Gesture
+unfoldable pub gesture_at : ℕ → List Paddle → Option Gesture
 gesture_at contact paddles = gesture_up (kind_of contact) (paddle_at contact paddles)
 
 -- 01, Lamp, start, factory values, 5: n paddles after a start, all up.

@@ -45,9 +45,9 @@ pub fn press(contact: u8, paddles: &mut [u8; BYTES])
     keep_paddle(i, pressed, paddles);
 }
 
-// A release edge of a contact, and the gesture that it completes.
+// A release edge of a contact, and the gesture that it completes, if it does.
 #[tactic(auto, using(crate::proofs::Laws::paddle_low))]
-pub fn release(contact: u8, paddles: &mut [u8; BYTES]) -> Gesture
+pub fn release(contact: u8, paddles: &mut [u8; BYTES]) -> Option<Gesture>
     ensures { Lifts contact paddles.old result paddles.new }
 {
     let i = paddle_of(contact);
@@ -119,10 +119,10 @@ fn left(contacts: u8, hold: u8) -> u8
 
 // Any tick, and the gesture of each paddle.
 #[tactic(auto, using(crate::proofs::Loops::ticking_ends), unfolding(crate::specs::Panel::paddles_from, crate::specs::Panel::kept_from))]
-pub fn tick(paddles: &mut [u8; BYTES]) -> [Gesture; PADDLES]
+pub fn tick(paddles: &mut [u8; BYTES]) -> [Option<Gesture>; PADDLES]
     ensures { Ticks paddles.old result paddles.new }
 {
-    let mut gestures = [Gesture::Nothing; PADDLES];
+    let mut gestures = [None; PADDLES];
     for i in 0..PADDLES {
         gestures[i] = tick_at(i, paddles);
     }
@@ -130,7 +130,7 @@ pub fn tick(paddles: &mut [u8; BYTES]) -> [Gesture; PADDLES]
 }
 
 #[tactic(auto, using(crate::proofs::Laws::ticks_at))]
-fn tick_at(i: usize, paddles: &mut [u8; BYTES]) -> Gesture
+fn tick_at(i: usize, paddles: &mut [u8; BYTES]) -> Option<Gesture>
     requires { i < paddle_count }
     ensures { TicksAt i paddles.old result paddles.new }
 {
@@ -142,11 +142,11 @@ fn tick_at(i: usize, paddles: &mut [u8; BYTES]) -> Gesture
 
 // A gesture uses up the taps.
 #[tactic(auto, unfolding(crate::specs::Code::used_up))]
-fn use_up(i: usize, gesture: Gesture, paddles: &mut [u8; BYTES])
+fn use_up(i: usize, gesture: Option<Gesture>, paddles: &mut [u8; BYTES])
     requires { i < paddle_count }
     ensures { paddles.new ≡ used_up i gesture paddles.old }
 {
-    if gesture.none() {
+    if gesture.is_none() {
         return;
     }
     paddles[TAPS + i] = 0;
@@ -154,17 +154,17 @@ fn use_up(i: usize, gesture: Gesture, paddles: &mut [u8; BYTES])
 
 // The gesture that the next tick completes.
 #[tactic(auto, using(crate::proofs::Laws::gesture_none, crate::proofs::Laws::gesture_taps, crate::proofs::Laws::gesture_hold))]
-fn gesture_at(i: usize, paddles: &[u8; BYTES]) -> Gesture
+fn gesture_at(i: usize, paddles: &[u8; BYTES]) -> Option<Gesture>
     requires { i < paddle_count }
     ensures { result ≡ gesture (paddle_from i paddles.now) }
 {
     if !loud_at(i, paddles) {
-        return Gesture::Nothing;
+        return None;
     }
     if paddles[CONTACTS + i] & 3 == 0 {
-        return Gesture::Taps(paddles[TAPS + i]);
+        return Some(Gesture::Taps(paddles[TAPS + i]));
     }
-    Gesture::Hold
+    Some(Gesture::Hold)
 }
 
 #[tactic(auto, unfolding(crate::specs::Panel::paddle_from))]

@@ -1,5 +1,5 @@
 -- What can alter a register, shown of every event.
-use Rattle.std.specs.Prelude.{Result, Ok, Err, if◌then◌else◌, None}
+use Rattle.std.specs.Prelude.{Result, Ok, Err, if◌then◌else◌, None, Option, Some}
 use mathlib.Core.Bool.{Bool, true, false, ◌&&◌, and-eq-true_iff, true≢false}
 use mathlib.Core.List.{List, [], ◌∷◌, ◌++◌, map}
 use mathlib.Core.Logic.{◌⊎◌, inl, inr}
@@ -121,11 +121,11 @@ after_wrote ws before m e w k same u =
     ∙ sym (written_joined ws (bare w ∷ []) (kept_at before u))
 
 -- A gesture's turn.
-turned_wrote : (i : ℕ) (g : Gesture) (m : Moment) → Wrote (bare (writes m.core.mode g) ∷ []) m (turned i g m)
+turned_wrote : (i : ℕ) (g : Option Gesture) (m : Moment) → Wrote (bare (writes m.core.mode g) ∷ []) m (turned i g m)
 unfolding turned written
 turned_wrote i g m = after_wrote [] m m (acted m.registers i g m.core) _ (λ w. refl) (gesture_writes m.registers i g m.core)
 
-turned_save : (i : ℕ) (g : Gesture) (m : Moment) → (turned i g m).core.save ≡ m.core.save
+turned_save : (i : ℕ) (g : Option Gesture) (m : Moment) → (turned i g m).core.save ≡ m.core.save
 unfolding turned after
 turned_save i g m = gesture_save m.registers i g m.core
 
@@ -144,7 +144,7 @@ turns_save i [] m = refl
 turns_save i (p ∷ ps) m = turns_save (i + 1) ps (turned i (gesture p) m) ∙ turned_save i (gesture p) m
 
 -- A paddle let go completes nothing that writes.
-let_go : (mode : Mode) → (writes mode gestures.Release ≡ write.Nothing) × (writes mode gestures.Nothing ≡ write.Nothing)
+let_go : (mode : Mode) → (writes mode (Some gestures.Release) ≡ write.Nothing) × (writes mode None ≡ write.Nothing)
 unfolding writes
 let_go Normal = (refl, refl)
 let_go Setup = (refl, refl)
@@ -153,8 +153,8 @@ let_go Factory = (refl, refl)
 up_writes : (mode : Mode) (contact : Contact) (p : Paddle) → writes mode (gesture_up contact p) ≡ write.Nothing
 unfolding gesture_up ending
 up_writes mode contact p =
-    both (λ (g : Gesture). writes mode g ≡ write.Nothing) (goes_up contact p)
-    (both (λ (g : Gesture). writes mode g ≡ write.Nothing) (eqb (with_contact contact false p).hold 0) (let_go mode).0 (let_go mode).1) (let_go mode).1
+    both (λ (g : Option Gesture). writes mode g ≡ write.Nothing) (goes_up contact p)
+    (both (λ (g : Option Gesture). writes mode g ≡ write.Nothing) (eqb (with_contact contact false p).hold 0) (let_go mode).0 (let_go mode).1) (let_go mode).1
 
 -- ---- every event
 

@@ -103,7 +103,7 @@ after_midway n e m r k = record {
   sizes = k.sizes;
 }
 
-turned_midway : (n i : ℕ) (g : Gesture) (m : Moment) → Midway n m → Midway (n + 1) (turned i g m)
+turned_midway : (n i : ℕ) (g : Option Gesture) (m : Moment) → Midway n m → Midway (n + 1) (turned i g m)
 unfolding turned
 turned_midway n i g m k =
     let e = acted m.registers i g m.core in

@@ -1,5 +1,5 @@
 -- The wall switch is careful with its password, job by job: only Set Registers puts it byte by byte, and only in Setup; only there is it shown.
-use Rattle.std.specs.Prelude.{Result, Ok, Err}
+use Rattle.std.specs.Prelude.{Result, Ok, Err, Option}
 use mathlib.Core.Bool.{false, true≢false}
 use mathlib.Core.List.{List, [], ◌∷◌, map}
 use mathlib.Core.Logic.{◌≢◌}
@@ -69,7 +69,7 @@ unset_nothing : Unset write.Nothing
 unset_nothing first e = let z : ◌≡◌ {A = ℕ} 0 1 = cc in omega arith
 
 -- A gesture writes nothing byte by byte.
-unset_gesture : (mode : Mode) (g : Gesture) → Unset (writes mode g)
+unset_gesture : (mode : Mode) (g : Option Gesture) → Unset (writes mode g)
 unset_gesture mode g =
     writes_by Unset mode g unset_nothing (λ _ _ first e. let z : ◌≡◌ {A = ℕ} 0 1 = cc in omega arith) (λ _ _ first e. let z : ◌≡◌ {A = ℕ} 0 1 = cc in omega arith)
 
@@ -84,7 +84,7 @@ unfolding after followed
 after_whole e m u w =
     whole_over m.change.first m.change.second (change_of e.write []).first (change_of e.write []).second w (password_whole e.write [] u)
 
-turned_whole : (i : ℕ) (g : Gesture) (m : Moment) → AsOne m.change → AsOne (turned i g m).change
+turned_whole : (i : ℕ) (g : Option Gesture) (m : Moment) → AsOne m.change → AsOne (turned i g m).change
 unfolding turned
 turned_whole i g m w =
     after_whole (acted m.registers i g m.core) m

@@ -1,4 +1,5 @@
 -- The modes of a tick, gesture by gesture.
+use Rattle.std.specs.Prelude.{Option, Some, None}
 use mathlib.Core.Bool.{Bool, true, false, true≢false, false≢true}
 use mathlib.Core.List.{List, [], ◌∷◌}
 use mathlib.Core.Path.{◌≡◌, refl, sym, ap, ◌∙◌}
@@ -16,7 +17,7 @@ use Rattle.vault.specs.declared.Mode.TheVariants.{Normal, Setup, Factory}
 use Rattle.paddle.specs.Paddle.{ending, fresh_paddle, gesture, gesture_up, goes_up, with_contact}
 use Rattle.paddle.specs.declared.Contact.{Contact}
 use Rattle.paddle.specs.declared.Gesture.{Gesture}
-use Rattle.paddle.specs.declared.Gesture.TheVariants.{Nothing, Taps, Hold, Release}
+use Rattle.paddle.specs.declared.Gesture.TheVariants.{Taps, Hold, Release}
 use Rattle.paddle.specs.declared.Paddle.{Paddle}
 use Rattle.acts.specs.Core.{aged, saved, signalled}
 use Rattle.gestures.specs.Gestures.{leads}
@@ -36,7 +37,7 @@ unfolding signalled_by signalled
 signalled_mode [] c = refl
 signalled_mode (p ∷ sent) c = refl
 
-pub turned_mode : (i : ℕ) (g : Gesture) (m : Moment) → (turned i g m).core.mode ≡ leads m.core.mode g
+pub turned_mode : (i : ℕ) (g : Option Gesture) (m : Moment) → (turned i g m).core.mode ≡ leads m.core.mode g
 unfolding turned after
 turned_mode i g m = gesture_leads m.registers i g m.core
 
@@ -74,26 +75,26 @@ unfolding in_setup
 not_outside mode e out = true≢false (sym (ap in_setup e) ∙ out)
 
 -- A gesture leads into Setup only as five taps in Normal.
-pub leads_open : (mode : Mode) (g : Gesture) → in_setup mode ≡ false → in_setup (leads mode g) ≡ true → (mode ≡ Normal) × (g ≡ Taps 5)
+pub leads_open : (mode : Mode) (g : Option Gesture) → in_setup mode ≡ false → in_setup (leads mode g) ≡ true → (mode ≡ Normal) × (g ≡ Some (Taps 5))
 unfolding leads in_setup
-leads_open Normal Nothing out = λ to. absurd (false≢true to)
-leads_open Normal (Taps n) out =
-    cases (λ (m : Mode). in_setup m ≡ true → (Normal ≡ Normal) × (Taps n ≡ Taps 5)) (eqb n 5) (λ e to. (refl, ap Taps (eqb-true n 5 e))) (λ e to. absurd (false≢true to))
-leads_open Normal Hold out = λ to. absurd (false≢true to)
-leads_open Normal Release out = λ to. absurd (false≢true to)
+leads_open Normal None out = λ to. absurd (false≢true to)
+leads_open Normal (Some (Taps n)) out =
+    cases (λ (m : Mode). in_setup m ≡ true → (Normal ≡ Normal) × (Some (Taps n) ≡ Some (Taps 5))) (eqb n 5) (λ e to. (refl, ap (λ (k : ℕ). Some (Taps k)) (eqb-true n 5 e))) (λ e to. absurd (false≢true to))
+leads_open Normal (Some Hold) out = λ to. absurd (false≢true to)
+leads_open Normal (Some Release) out = λ to. absurd (false≢true to)
 leads_open Setup g out = absurd (true≢false out)
-leads_open Factory Nothing out = λ to. absurd (false≢true to)
-leads_open Factory (Taps n) out =
-    cases (λ (m : Mode). in_setup m ≡ true → (Factory ≡ Normal) × (Taps n ≡ Taps 5)) (eqb n 2) (λ e to. absurd (false≢true to)) (λ e to. absurd (false≢true to))
-leads_open Factory Hold out = λ to. absurd (false≢true to)
-leads_open Factory Release out = λ to. absurd (false≢true to)
+leads_open Factory None out = λ to. absurd (false≢true to)
+leads_open Factory (Some (Taps n)) out =
+    cases (λ (m : Mode). in_setup m ≡ true → (Factory ≡ Normal) × (Some (Taps n) ≡ Some (Taps 5))) (eqb n 2) (λ e to. absurd (false≢true to)) (λ e to. absurd (false≢true to))
+leads_open Factory (Some Hold) out = λ to. absurd (false≢true to)
+leads_open Factory (Some Release) out = λ to. absurd (false≢true to)
 
 -- Where a paddle finds Setup in a tick that began outside it, an earlier one closed five taps and found Normal.
 pub record Opened (mode : Mode) (ps : List Paddle) (i : ℕ) : Type 0 where
   pub paddle : ℕ
   pub earlier : paddle < i
   pub there : paddle < length ps
-  pub five : gesture (get_or ps paddle fresh_paddle) ≡ Taps 5
+  pub five : gesture (get_or ps paddle fresh_paddle) ≡ Some (Taps 5)
   pub finds : mode_for mode ps paddle ≡ Normal
 
 pub opened : (mode : Mode) (ps : List Paddle) (i : ℕ) → in_setup mode ≡ false → in_setup (mode_for mode ps i) ≡ true → Opened mode ps i
@@ -113,15 +114,15 @@ opened mode (p ∷ ps) (suc i) out to = go (in_setup (leads mode (gesture p))) r
 -- ---- a paddle let go
 
 -- A release edge completes no taps ..
-pub no_taps : (c : Contact) (p : Paddle) (n : ℕ) → gesture_up c p ≡ Taps n → ⊥
+pub no_taps : (c : Contact) (p : Paddle) (n : ℕ) → gesture_up c p ≡ Some (Taps n) → ⊥
 unfolding gesture_up ending
 no_taps c p n =
-    let Other : Gesture → Type 0 = λ g. g ≡ Taps n → ⊥ in
+    let Other : Option Gesture → Type 0 = λ g. g ≡ Some (Taps n) → ⊥ in
     both Other (goes_up c p) (both Other (eqb (with_contact c false p).hold 0) (λ e. let z : ◌≡◌ {A = ℕ} 0 1 = cc in omega arith) (λ e. let z : ◌≡◌ {A = ℕ} 0 1 = cc in omega arith))
     (λ e. let z : ◌≡◌ {A = ℕ} 0 1 = cc in omega arith)
 
 -- .. and leaves every mode.
-let_go_leads : (mode : Mode) → (leads mode Release ≡ mode) × (leads mode Nothing ≡ mode)
+let_go_leads : (mode : Mode) → (leads mode (Some Release) ≡ mode) × (leads mode None ≡ mode)
 unfolding leads
 let_go_leads Normal = (refl, refl)
 let_go_leads Setup = (refl, refl)
@@ -130,5 +131,5 @@ let_go_leads Factory = (refl, refl)
 pub up_leads : (mode : Mode) (contact : Contact) (p : Paddle) → leads mode (gesture_up contact p) ≡ mode
 unfolding gesture_up ending
 up_leads mode contact p =
-    both (λ (g : Gesture). leads mode g ≡ mode) (goes_up contact p)
-    (both (λ (g : Gesture). leads mode g ≡ mode) (eqb (with_contact contact false p).hold 0) (let_go_leads mode).0 (let_go_leads mode).1) (let_go_leads mode).1
+    both (λ (g : Option Gesture). leads mode g ≡ mode) (goes_up contact p)
+    (both (λ (g : Option Gesture). leads mode g ≡ mode) (eqb (with_contact contact false p).hold 0) (let_go_leads mode).0 (let_go_leads mode).1) (let_go_leads mode).1

@@ -1,5 +1,5 @@
 -- What a tick writes, and which ticks pass Setup unseen.
-use Rattle.std.specs.Prelude.{if◌then◌else◌}
+use Rattle.std.specs.Prelude.{if◌then◌else◌, Option, Some, None}
 use mathlib.Core.Bool.{Bool, true, false, ◌||◌, or-true, true≢false, false≢true}
 use mathlib.Core.List.{List, [], ◌∷◌, ◌++◌}
 use mathlib.Core.Logic.{◌⊎◌, inl, inr, ⊎_elim}
@@ -42,16 +42,16 @@ use Rattle.promises.proofs.Opening.{opening}
 -- ---- what the gestures of a tick write
 
 -- A gesture counts an entry, sets the factory values, or writes nothing.
-writes_as : (mode : Mode) (g : Gesture) → writes mode g ≡ (if opens mode g then write.Count Setups else if resets mode g then write.Factory else write.Nothing)
+writes_as : (mode : Mode) (g : Option Gesture) → writes mode g ≡ (if opens mode g then write.Count Setups else if resets mode g then write.Factory else write.Nothing)
 unfolding writes opens resets closed
-writes_as Normal gestures.Nothing = refl
-writes_as Normal (gestures.Taps n) = refl
-writes_as Normal gestures.Hold = refl
-writes_as Normal gestures.Release = refl
-writes_as Setup gestures.Nothing = refl
-writes_as Setup (gestures.Taps n) = refl
-writes_as Setup gestures.Hold = refl
-writes_as Setup gestures.Release = refl
+writes_as Normal None = refl
+writes_as Normal (Some (gestures.Taps n)) = refl
+writes_as Normal (Some gestures.Hold) = refl
+writes_as Normal (Some gestures.Release) = refl
+writes_as Setup None = refl
+writes_as Setup (Some (gestures.Taps n)) = refl
+writes_as Setup (Some gestures.Hold) = refl
+writes_as Setup (Some gestures.Release) = refl
 writes_as Factory g = refl
 
 -- The factory values twice are the factory values once: the same tests decide.
@@ -120,7 +120,7 @@ module _ (place : ℕ) (elsewhere : eqb place (counter_place Setups) ≡ false) 
   or_byte false true old = refl
   or_byte false false old = refl
 
-  not_both : (mode : Mode) (g : Gesture) → opens mode g ≡ true → resets mode g ≡ false
+  not_both : (mode : Mode) (g : Option Gesture) → opens mode g ≡ true → resets mode g ≡ false
   unfolding opens resets
   not_both Normal g e = refl
   not_both Setup g e = absurd (false≢true e)
@@ -185,14 +185,14 @@ every_tick s lent place enough long h =
 
 -- ---- which gestures do it
 
-closed_by : (count : ℕ) (g : Gesture) → closed count g ≡ true → g ≡ gestures.Taps count
+closed_by : (count : ℕ) (g : Option Gesture) → closed count g ≡ true → g ≡ Some (gestures.Taps count)
 unfolding closed
-closed_by count gestures.Nothing e = absurd (false≢true e)
-closed_by count (gestures.Taps n) e = ap gestures.Taps (eqb-true n count e)
-closed_by count gestures.Hold e = absurd (false≢true e)
-closed_by count gestures.Release e = absurd (false≢true e)
+closed_by count None e = absurd (false≢true e)
+closed_by count (Some (gestures.Taps n)) e = ap (λ (k : ℕ). Some (gestures.Taps k)) (eqb-true n count e)
+closed_by count (Some gestures.Hold) e = absurd (false≢true e)
+closed_by count (Some gestures.Release) e = absurd (false≢true e)
 
-resets_by : (mode : Mode) (g : Gesture) → resets mode g ≡ true → (mode ≡ Setup) × (g ≡ gestures.Taps 10)
+resets_by : (mode : Mode) (g : Option Gesture) → resets mode g ≡ true → (mode ≡ Setup) × (g ≡ Some (gestures.Taps 10))
 unfolding resets
 resets_by Normal g e = absurd (false≢true e)
 resets_by Setup g e = (refl, closed_by 10 g e)
@@ -202,7 +202,7 @@ resets_by Factory g e = absurd (false≢true e)
 record Has (mode : Mode) (ps : List Paddle) (found : Mode) (count : ℕ) : Type 0 where
   paddle : ℕ
   there : paddle < length ps
-  taps : gesture (get_or ps paddle fresh_paddle) ≡ gestures.Taps count
+  taps : gesture (get_or ps paddle fresh_paddle) ≡ Some (gestures.Taps count)
   finds : mode_for mode ps paddle ≡ found
 
 reset_has : (mode : Mode) (ps : List Paddle) → reset mode ps ≡ true → Has mode ps Setup 10
@@ -219,7 +219,7 @@ reset_has mode (p ∷ ps) e = go (resets mode (gesture p)) refl (λ h. reset_has
         let rest = later h in
         record { paddle = suc rest.paddle; there = omega (arith, rest.there); taps = rest.taps; finds = rest.finds }
 
-has_reset : (mode : Mode) (ps : List Paddle) (i : ℕ) → i < length ps → gesture (get_or ps i fresh_paddle) ≡ gestures.Taps 10 → mode_for mode ps i ≡ Setup → reset mode ps ≡ true
+has_reset : (mode : Mode) (ps : List Paddle) (i : ℕ) → i < length ps → gesture (get_or ps i fresh_paddle) ≡ Some (gestures.Taps 10) → mode_for mode ps i ≡ Setup → reset mode ps ≡ true
 unfolding reset mode_for resets closed
 has_reset mode [] i there taps finds = absurd (omega arith)
 has_reset mode (p ∷ ps) zero there taps finds = rw (finds, taps)
@@ -288,7 +288,7 @@ unseen_exactly s e out = (
       ((k.0, inr (subst (ByFiveTaps s) (sym k.1.0) (enters_by s k.1.1))), to e.deed refl k.1.0),
 )
 
-entries_some : (mode : Mode) (ps : List Paddle) (i : ℕ) → i < length ps → gesture (get_or ps i fresh_paddle) ≡ gestures.Taps 5 → mode_for mode ps i ≡ Normal → 1 ≤ openings mode ps
+entries_some : (mode : Mode) (ps : List Paddle) (i : ℕ) → i < length ps → gesture (get_or ps i fresh_paddle) ≡ Some (gestures.Taps 5) → mode_for mode ps i ≡ Normal → 1 ≤ openings mode ps
 unfolding openings mode_for opens closed
 entries_some mode [] i there taps finds = absurd (omega arith)
 entries_some mode (p ∷ ps) zero there taps finds = rw (finds, taps) (omega arith)
@@ -303,20 +303,20 @@ unseen_counts s p =
 -- ---- the taps of such a tick
 
 -- Out of Setup lead two taps and ten.
-leads_out : (g : Gesture) → in_setup (leads Setup g) ≡ false → (g ≡ gestures.Taps 2) ⊎ (g ≡ gestures.Taps 10)
+leads_out : (g : Option Gesture) → in_setup (leads Setup g) ≡ false → (g ≡ Some (gestures.Taps 2)) ⊎ (g ≡ Some (gestures.Taps 10))
 unfolding leads in_setup
-leads_out gestures.Nothing e = absurd (true≢false e)
-leads_out (gestures.Taps n) e =
-    cases (λ (m : Mode). in_setup m ≡ false → (gestures.Taps n ≡ gestures.Taps 2) ⊎ (gestures.Taps n ≡ gestures.Taps 10)) (eqb n 2)
-    (λ two out. inl (ap gestures.Taps (eqb-true n 2 two)))
-    (λ other. cases (λ (m : Mode). in_setup m ≡ false → (gestures.Taps n ≡ gestures.Taps 2) ⊎ (gestures.Taps n ≡ gestures.Taps 10)) (eqb n 10)
-    (λ ten out. inr (ap gestures.Taps (eqb-true n 10 ten))) (λ none out. absurd (true≢false out))) e
-leads_out gestures.Hold e = absurd (true≢false e)
-leads_out gestures.Release e = absurd (true≢false e)
+leads_out None e = absurd (true≢false e)
+leads_out (Some (gestures.Taps n)) e =
+    cases (λ (m : Mode). in_setup m ≡ false → (Some (gestures.Taps n) ≡ Some (gestures.Taps 2)) ⊎ (Some (gestures.Taps n) ≡ Some (gestures.Taps 10))) (eqb n 2)
+    (λ two out. inl (ap (λ (k : ℕ). Some (gestures.Taps k)) (eqb-true n 2 two)))
+    (λ other. cases (λ (m : Mode). in_setup m ≡ false → (Some (gestures.Taps n) ≡ Some (gestures.Taps 2)) ⊎ (Some (gestures.Taps n) ≡ Some (gestures.Taps 10))) (eqb n 10)
+    (λ ten out. inr (ap (λ (k : ℕ). Some (gestures.Taps k)) (eqb-true n 10 ten))) (λ none out. absurd (true≢false out))) e
+leads_out (Some gestures.Hold) e = absurd (true≢false e)
+leads_out (Some gestures.Release) e = absurd (true≢false e)
 
-out_leads : (g : Gesture) → (g ≡ gestures.Taps 2) ⊎ (g ≡ gestures.Taps 10) → in_setup (leads Setup g) ≡ false
+out_leads : (g : Option Gesture) → (g ≡ Some (gestures.Taps 2)) ⊎ (g ≡ Some (gestures.Taps 10)) → in_setup (leads Setup g) ≡ false
 unfolding leads in_setup
-out_leads g taps = ⊎_elim (λ two. ap (λ (h : Gesture). in_setup (leads Setup h)) two) (λ ten. ap (λ (h : Gesture). in_setup (leads Setup h)) ten) taps
+out_leads g taps = ⊎_elim (λ two. ap (λ (h : Option Gesture). in_setup (leads Setup h)) two) (λ ten. ap (λ (h : Option Gesture). in_setup (leads Setup h)) ten) taps
 
 is_setup : (mode : Mode) → in_setup mode ≡ true → mode ≡ Setup
 unfolding in_setup
@@ -326,13 +326,13 @@ is_setup Factory e = absurd (true≢false (sym e))
 
 -- A paddle closes five taps and finds Normal.
 abbrev OpensAt : Mode → List Paddle → ℕ → Type 0
-OpensAt mode ps i = (i < length ps) × ((gesture (get_or ps i fresh_paddle) ≡ gestures.Taps 5) × (mode_for mode ps i ≡ Normal))
+OpensAt mode ps i = (i < length ps) × ((gesture (get_or ps i fresh_paddle) ≡ Some (gestures.Taps 5)) × (mode_for mode ps i ≡ Normal))
 
 -- The last way out of Setup: two or ten taps that find it, and no opening after them.
 record Left (mode : Mode) (ps : List Paddle) : Type 0 where
   paddle : ℕ
   there : paddle < length ps
-  taps : (gesture (get_or ps paddle fresh_paddle) ≡ gestures.Taps 2) ⊎ (gesture (get_or ps paddle fresh_paddle) ≡ gestures.Taps 10)
+  taps : (gesture (get_or ps paddle fresh_paddle) ≡ Some (gestures.Taps 2)) ⊎ (gesture (get_or ps paddle fresh_paddle) ≡ Some (gestures.Taps 10))
   finds : mode_for mode ps paddle ≡ Setup
   last : (i : ℕ) → paddle < i → OpensAt mode ps i → ⊥
 
@@ -441,7 +441,7 @@ by_passes : (s : Switch Plain) → OpensAndLeaves s → PassesUnseen s
 by_passes s o = ⊎_elim (λ two. from 2 two (inl two.taps)) (λ ten. from 10 ten (inr ten.taps)) o.leaves
   where
     from : (count : ℕ) → Closes s o.leaver Setup count
-        → (gesture (get_or s.plain.paddles o.leaver fresh_paddle) ≡ gestures.Taps 2) ⊎ (gesture (get_or s.plain.paddles o.leaver fresh_paddle) ≡ gestures.Taps 10) → PassesUnseen s
+        → (gesture (get_or s.plain.paddles o.leaver fresh_paddle) ≡ Some (gestures.Taps 2)) ⊎ (gesture (get_or s.plain.paddles o.leaver fresh_paddle) ≡ Some (gestures.Taps 10)) → PassesUnseen s
     from count c taps = record {
       before = o.before;
       paddle = o.leaver;

@@ -30,10 +30,11 @@ use Rattle.paddle.specs.Paddle.{closing, one_tap_more, down, fresh_paddle, gestu
 use Rattle.paddle.specs.Promises.{past, raised, paddle_skip, paddle_ticks, wait, wait_for}
 use Rattle.paddle.specs.declared.Contact.{Contact}
 use Rattle.paddle.specs.declared.Gesture.{Gesture}
-use Rattle.paddle.specs.declared.Gesture.TheVariants.{Hold, Nothing, Release, Taps}
+use Rattle.paddle.specs.declared.Gesture.TheVariants.{Hold, Release, Taps}
 use Rattle.paddle.specs.declared.Paddle.{Paddle}
 use Rattle.paddle.proofs.Laws as paddle
-use Rattle.paddle.specs.Code.{completes_nothing, due, press_for, gesture_for}
+use Rattle.std.specs.Option.{is_none}
+use Rattle.paddle.specs.Code.{due, press_for, gesture_for}
 use Rattle.lamp.specs.Lamp.{signal_set}
 use Rattle.lamp.specs.declared.Lamp.{Lamp}
 use Rattle.lamp.proofs.Laws.{output_plain}
@@ -105,38 +106,38 @@ same_numbered : (all now : List ℕ) → Agrees all now → (number : Option ℕ
 same_numbered all now same None p = refl
 same_numbered all now same (Some number) p = same_chosen all now same number p
 
-same_announced : (all now : List ℕ) → Agrees all now → (mode : Mode) (i : ℕ) (g : Gesture) (p : Percent) → announced now mode i g p ≡ announced all mode i g p
+same_announced : (all now : List ℕ) → Agrees all now → (mode : Mode) (i : ℕ) (g : Option Gesture) (p : Percent) → announced now mode i g p ≡ announced all mode i g p
 unfolding announced gesture_message
 same_announced all now same mode i g p =
     rw (same_transmit all now same i, same 0x00 (λ e. omega arith), same 0x01 (λ e. omega arith), same_numbered all now same)
 
 -- A gesture that writes nothing and leaves mode and lamp: one tap, Hold and Release in every mode, two taps in Normal.
-record Plainly (mode : Mode) (g : Gesture) : Type 0 where
+record Plainly (mode : Mode) (g : Option Gesture) : Type 0 where
   silent : writes mode g ≡ Unwritten
   stays : leads mode g ≡ mode
   lamp : (all : List ℕ) (i : ℕ) (c : Core) → (acted_in mode all i g c).core.lamp ≡ c.lamp
 
-one_tap : (mode : Mode) → Plainly mode (Taps 1)
+one_tap : (mode : Mode) → Plainly mode (Some (Taps 1))
 unfolding writes leads acted_in acted_in_normal acted_in_setup acted_in_factory taps_in_normal taps_in_setup taps_in_factory by_action setting unwritten
 one_tap Normal = record { silent = refl; stays = refl; lamp = λ all i c. refl }
 one_tap Setup = record { silent = refl; stays = refl; lamp = λ all i c. refl }
 one_tap Factory = record { silent = refl; stays = refl; lamp = λ all i c. refl }
 
-two_taps : (mode : Mode) → mode ≡ Normal → Plainly mode (Taps 2)
+two_taps : (mode : Mode) → mode ≡ Normal → Plainly mode (Some (Taps 2))
 unfolding writes leads acted_in acted_in_normal taps_in_normal by_action setting unwritten
-two_taps mode normal = subst (λ (m : Mode). Plainly m (Taps 2)) (sym normal) record { silent = refl; stays = refl; lamp = λ all i c. refl }
+two_taps mode normal = subst (λ (m : Mode). Plainly m (Some (Taps 2))) (sym normal) record { silent = refl; stays = refl; lamp = λ all i c. refl }
 
 held_lamp : (all : List ℕ) (i : ℕ) (c : Core) → (holding all i c).lamp ≡ c.lamp
 unfolding holding setting
 held_lamp all i c = both (λ (e : Core). e.lamp ≡ c.lamp) (options_of (dimming_in all)).capable refl refl
 
-holding_on : (mode : Mode) → Plainly mode Hold
+holding_on : (mode : Mode) → Plainly mode (Some Hold)
 unfolding writes leads acted_in acted_in_normal acted_in_setup acted_in_factory unwritten
 holding_on Normal = record { silent = refl; stays = refl; lamp = held_lamp }
 holding_on Setup = record { silent = refl; stays = refl; lamp = λ all i c. refl }
 holding_on Factory = record { silent = refl; stays = refl; lamp = held_lamp }
 
-letting_go : (mode : Mode) → Plainly mode Release
+letting_go : (mode : Mode) → Plainly mode (Some Release)
 unfolding writes leads acted_in acted_in_normal acted_in_setup acted_in_factory stopping unwritten
 letting_go Normal = record { silent = refl; stays = refl; lamp = λ all i c. refl }
 letting_go Setup = record { silent = refl; stays = refl; lamp = λ all i c. refl }
@@ -194,22 +195,22 @@ module _ (all now : List ℕ) (same : Agrees all now) (i : ℕ) (c d : Core) (al
       go false true = alike
       go false false = alike
 
-  same_in : (mode : Mode) (g : Gesture) → (acted_in mode now i g d).core.dimmer ≡ (acted_in mode all i g c).core.dimmer
+  same_in : (mode : Mode) (g : Option Gesture) → (acted_in mode now i g d).core.dimmer ≡ (acted_in mode all i g c).core.dimmer
   unfolding acted_in acted_in_normal acted_in_setup acted_in_factory unwritten stopping
-  same_in Normal Nothing = alike
-  same_in Normal (Taps n) = same_taps_in_normal n
-  same_in Normal Hold = same_holding
-  same_in Normal Release = rw alike
-  same_in Setup Nothing = alike
-  same_in Setup (Taps n) = same_taps_in_setup n
-  same_in Setup Hold = alike
-  same_in Setup Release = alike
-  same_in Factory Nothing = alike
-  same_in Factory (Taps n) = same_taps_in_factory n
-  same_in Factory Hold = same_holding
-  same_in Factory Release = rw alike
+  same_in Normal None = alike
+  same_in Normal (Some (Taps n)) = same_taps_in_normal n
+  same_in Normal (Some Hold) = same_holding
+  same_in Normal (Some Release) = rw alike
+  same_in Setup None = alike
+  same_in Setup (Some (Taps n)) = same_taps_in_setup n
+  same_in Setup (Some Hold) = alike
+  same_in Setup (Some Release) = alike
+  same_in Factory None = alike
+  same_in Factory (Some (Taps n)) = same_taps_in_factory n
+  same_in Factory (Some Hold) = same_holding
+  same_in Factory (Some Release) = rw alike
 
-  same_acted : (g : Gesture) → d.mode ≡ c.mode → (acted now i g d).core.dimmer ≡ (acted all i g c).core.dimmer
+  same_acted : (g : Option Gesture) → d.mode ≡ c.mode → (acted now i g d).core.dimmer ≡ (acted all i g c).core.dimmer
   unfolding acted
   same_acted g mode = ap (λ (m : Mode). (acted_in m now i g d).core.dimmer) mode ∙ same_in c.mode g
 
@@ -234,10 +235,10 @@ same_put zero i x = refl
 same_put (suc n) zero x = refl
 same_put {X = X} (suc n) (suc i) x = ap (λ (l : List X). x ∷ l) (same_put n i x)
 
-side_still : (i : ℕ) (own : Paddle) (others : List Paddle) → gesture own ≡ Nothing → Still others → Still (side i own others)
+side_still : (i : ℕ) (own : Paddle) (others : List Paddle) → gesture own ≡ None → Still others → Still (side i own others)
 side_still i own others a b =
-    side_map gesture i own others ∙ ap₂ (λ (gs : List Gesture) (g : Gesture). set gs i g) b a ∙ same_put (length others) i Nothing
-    ∙ ap (λ (n : ℕ). replicate n Nothing) (sym (length-set others i own))
+    side_map gesture i own others ∙ ap₂ (λ (gs : List (Option Gesture)) (g : Option Gesture). set gs i g) b a ∙ same_put (length others) i None
+    ∙ ap (λ (n : ℕ). replicate n None) (sym (length-set others i own))
 
 -- A tick in which the others complete nothing is the turn of the own one.
 side_turns : (from i : ℕ) (own : Paddle) (others : List Paddle) → i < length others → Still others → (m : Moment)
@@ -249,7 +250,7 @@ side_turns from zero own (p ∷ ps) h still m =
     turns_quiet ps (length ps) (from + 1) (turned from (gesture own) m) (ap (drop 1) still) ∙ ap (λ (j : ℕ). turned j (gesture own) m) e
 side_turns from (suc i) own (p ∷ ps) h still m =
     let e : from + 1 + i ≡ from + suc i = omega arith in
-    ap (λ (g : Gesture). turns (from + 1) (side i own ps) (turned from g m)) (ap (λ (gs : List Gesture). get_or gs 0 Nothing) still)
+    ap (λ (g : Option Gesture). turns (from + 1) (side i own ps) (turned from g m)) (ap (λ (gs : List (Option Gesture)). get_or gs 0 None) still)
     ∙ ap (turns (from + 1) (side i own ps)) (turned_nothing from m)
     ∙ side_turns (from + 1) i own ps (omega arith) (ap (drop 1) still) m
     ∙ ap (λ (j : ℕ). turned j (gesture own) m) e
@@ -279,23 +280,23 @@ halted_level i d drive =
     (ap (λ (x : Dimmer). x.level) same ∙ e.0, ap (λ (x : Dimmer). x.motion) same ∙ e.1)
 
 released_in : (mode : Mode) (all : List ℕ) (i : ℕ) (c : Core) → drives i ≡ true
-    → ((acted_in mode all i Release c).core.dimmer.level ≡ c.dimmer.level) × ((mode ≡ Setup → c.dimmer.motion ≡ Idle) → (acted_in mode all i Release c).core.dimmer.motion ≡ Idle)
+    → ((acted_in mode all i (Some Release) c).core.dimmer.level ≡ c.dimmer.level) × ((mode ≡ Setup → c.dimmer.motion ≡ Idle) → (acted_in mode all i (Some Release) c).core.dimmer.motion ≡ Idle)
 unfolding acted_in acted_in_normal acted_in_setup acted_in_factory unwritten stopping
 released_in Normal all i c drive = let e = halted_level i c.dimmer drive in (e.0, λ rests. e.1)
 released_in Setup all i c drive = (refl, λ rests. rests refl)
 released_in Factory all i c drive = let e = halted_level i c.dimmer drive in (e.0, λ rests. e.1)
 
-released_level : (all : List ℕ) (i : ℕ) (c : Core) → drives i ≡ true → (acted all i Release c).core.dimmer.level ≡ c.dimmer.level
+released_level : (all : List ℕ) (i : ℕ) (c : Core) → drives i ≡ true → (acted all i (Some Release) c).core.dimmer.level ≡ c.dimmer.level
 unfolding acted
 released_level all i c drive = (released_in c.mode all i c drive).0
 
-released_idle : (all : List ℕ) (i : ℕ) (c : Core) → drives i ≡ true → (c.mode ≡ Setup → c.dimmer.motion ≡ Idle) → (acted all i Release c).core.dimmer.motion ≡ Idle
+released_idle : (all : List ℕ) (i : ℕ) (c : Core) → drives i ≡ true → (c.mode ≡ Setup → c.dimmer.motion ≡ Idle) → (acted all i (Some Release) c).core.dimmer.motion ≡ Idle
 unfolding acted
 released_idle all i c drive rests = (released_in c.mode all i c drive).1 rests
 
-held_in_setup : (all : List ℕ) (i : ℕ) (c : Core) → c.mode ≡ Setup → (acted all i Hold c).core.dimmer.motion ≡ c.dimmer.motion
+held_in_setup : (all : List ℕ) (i : ℕ) (c : Core) → c.mode ≡ Setup → (acted all i (Some Hold) c).core.dimmer.motion ≡ c.dimmer.motion
 unfolding acted acted_in acted_in_setup unwritten
-held_in_setup all i c setup = ap (λ (m : Mode). (acted_in m all i Hold c).core.dimmer.motion) setup
+held_in_setup all i c setup = ap (λ (m : Mode). (acted_in m all i (Some Hold) c).core.dimmer.motion) setup
 
 -- ---- an event of the paddles, once they have had their turn
 
@@ -373,7 +374,7 @@ module _ (s : Switch Plain) (d : Dimmer) (i : ℕ) (own : Paddle) (others : List
   }
 
   -- A tick that completes nothing.
-  tick_passed : Like s d i own others t → d.motion ≡ Idle → gesture own ≡ Nothing → Still others
+  tick_passed : Like s d i own others t → d.motion ≡ Idle → gesture own ≡ None → Still others
       → Passed s d i (next_paddle own) (map next_paddle others) t (with_room tick ∷ [])
   unfolding run
   tick_passed like idle a b =
@@ -394,7 +395,7 @@ module _ (s : Switch Plain) (d : Dimmer) (i : ℕ) (own : Paddle) (others : List
 
 -- A paddle that completes nothing in n ticks.
 abbrev QuietFor : ℕ → Paddle → Type 0
-QuietFor n p = (k : ℕ) → k < n → gesture (paddle_ticks k p) ≡ Nothing
+QuietFor n p = (k : ℕ) → k < n → gesture (paddle_ticks k p) ≡ None
 
 quiet_on : (n : ℕ) (p : Paddle) → QuietFor (suc n) p → QuietFor n (next_paddle p)
 quiet_on n p q k h = ap gesture (ticks_shift k p) ∙ q (suc k) (omega arith)
@@ -431,18 +432,17 @@ module _ (s : Switch Plain) (d : Dimmer) (contact : ℕ) (known : contact < cont
       (quick_press t.plain.registers t.plain.core t.plain.paddles t.password room (omega arith) contact known)
       (record { paddles = ap (pressed_at contact) like.paddles ∙ pressed_side contact own others like.there; there = like.there; mode = like.mode; has = like.has; steady = like.steady; registers = like.registers })
 
-  release_passed : gesture_up (kind_of contact) own ≡ Nothing → Passed s d (paddle_of contact) (released (kind_of contact) own) others t (with_room (release contact) ∷ [])
-  unfolding completes_nothing
+  release_passed : gesture_up (kind_of contact) own ≡ None → Passed s d (paddle_of contact) (released (kind_of contact) own) others t (with_room (release contact) ∷ [])
   release_passed still =
       one_passed s d (paddle_of contact) (released (kind_of contact) own) others t (with_room (release contact)) _ _
       (quick_release t.plain.registers t.plain.core t.plain.paddles t.password room (omega arith) contact known
-      (ap (λ (ps : List Paddle). completes_nothing (gesture_at contact ps)) like.paddles ∙ ap completes_nothing (gesture_side contact own others like.there ∙ still)))
+      (ap (λ (ps : List Paddle). is_none (gesture_at contact ps)) like.paddles ∙ ap is_none (gesture_side contact own others like.there ∙ still)))
       (record { paddles = ap (released_at contact) like.paddles ∙ released_side contact own others like.there; there = like.there; mode = like.mode; has = like.has; steady = like.steady; registers = like.registers })
 
 -- ---- a gesture that acts
 
 -- The moment after the turn of such a gesture, where the dimmer comes to E.
-module _ (p : Plain) (c : Core) (i : ℕ) (g : Gesture) (one : Plainly c.mode g) (E : Dimmer) (comes : (acted p.registers i g c).core.dimmer ≡ E) where
+module _ (p : Plain) (c : Core) (i : ℕ) (g : Option Gesture) (one : Plainly c.mode g) (E : Dimmer) (comes : (acted p.registers i g c).core.dimmer ≡ E) where
   turned_registers : (turned i g (begun p c)).registers ≡ p.registers
   unfolding turned after applied
   turned_registers = ap (λ (w : Write). applied w [] p.registers) (gesture_writes p.registers i g c ∙ one.silent)
@@ -467,12 +467,12 @@ module _ (p : Plain) (c : Core) (i : ℕ) (g : Gesture) (one : Plainly c.mode g)
       ∙ ap₂ (λ (m : Mode) (l : Step). announced all m i g (percent_of l)) e (ap (λ (x : Dimmer). x.level) comes)
 
 -- An event in which it acts: what is shown, and the switch after it.
-record Acts (s : Switch Plain) (E : Dimmer) (i : ℕ) (g : Gesture) (own : Paddle) (others : List Paddle) (t : Switch Plain) (e : Event) : Type 0 where
+record Acts (s : Switch Plain) (E : Dimmer) (i : ℕ) (g : Option Gesture) (own : Paddle) (others : List Paddle) (t : Switch Plain) (e : Event) : Type 0 where
   now : Like s E i own others (respond t e).next
   shows : Shows (mode_in s) E.level (announced s.plain.registers (mode_in s) i g (percent_of E.level)) (respond t e).shown
 
 module _ (s : Switch Plain) (d : Dimmer) (contact : ℕ) (own : Paddle) (others : List Paddle) (t : Switch Plain) (like : Like s d (paddle_of contact) own others t)
-    (g : Gesture) (one : Plainly t.plain.core.mode g) (E : Dimmer) where
+    (g : Option Gesture) (one : Plainly t.plain.core.mode g) (E : Dimmer) where
   tick_acts : (acted t.plain.registers (paddle_of contact) g (aged t.plain.core)).core.dimmer ≡ E → gesture own ≡ g → Still others
       → Acts s E (paddle_of contact) g (next_paddle own) (map next_paddle others) t (with_room tick)
   unfolding Product.response_of job_of_tick after saved aged
@@ -483,7 +483,7 @@ module _ (s : Switch Plain) (d : Dimmer) (contact : ℕ) (own : Paddle) (others 
       let nought : 0 + i ≡ i = omega arith in
       let turn : turns 0 t.plain.paddles (begun t.plain c) ≡ m =
       ap (λ (ps : List Paddle). turns 0 ps (begun t.plain c)) like.paddles ∙ side_turns 0 i own others like.there still (begun t.plain c)
-      ∙ ap (λ (j : ℕ). turned j (gesture own) (begun t.plain c)) nought ∙ ap (λ (h : Gesture). turned i h (begun t.plain c)) mine in
+      ∙ ap (λ (j : ℕ). turned j (gesture own) (begun t.plain c)) nought ∙ ap (λ (h : Option Gesture). turned i h (begun t.plain c)) mine in
       let same : respond t (with_room tick) ≡ settled t.password (finished (after (saved m.core) m) (map next_paddle t.plain.paddles)) =
       ap (settled t.password) (tick_job t.plain room (omega arith))
       ∙ ap (λ (m : Moment). settled t.password (finished (after (saved m.core) m) (map next_paddle t.plain.paddles))) turn in
@@ -518,7 +518,7 @@ module _ (s : Switch Plain) (d : Dimmer) (contact : ℕ) (own : Paddle) (others 
       let up : gesture_at contact t.plain.paddles ≡ g = ap (gesture_at contact) like.paddles ∙ gesture_side contact own others like.there ∙ mine in
       let same : respond t (with_room (release contact)) ≡ settled t.password (finished m ps) =
       ap (settled t.password) (release_job t.plain room contact (omega arith) known)
-      ∙ ap (λ (h : Gesture). settled t.password (finished (turned i h (begun t.plain c)) ps)) up in
+      ∙ ap (λ (h : Option Gesture). settled t.password (finished (turned i h (begun t.plain c)) ps)) up in
       let sent = turned_sent t.plain c i g one E comes s.plain.registers s.plain.core.mode like.registers like.mode in
       record {
         now = subst (Like s E i (released (kind_of contact) own) others) (sym (ap (λ a. a.next) same))
@@ -538,7 +538,7 @@ module _ (s : Switch Plain) (d : Dimmer) (contact : ℕ) (own : Paddle) (others 
 
 -- A paddle that completes nothing any more.
 abbrev Done : Paddle → Type 0
-Done p = (k : ℕ) → gesture (paddle_ticks k p) ≡ Nothing
+Done p = (k : ℕ) → gesture (paddle_ticks k p) ≡ None
 
 -- The same of each paddle of a list.
 abbrev AllDone : List Paddle → Type 0
@@ -557,7 +557,7 @@ done_as p hold gap e k = ap (λ (q : Paddle). gesture (paddle_ticks k q)) e ∙ 
 pressed_quiet : (n : ℕ) (k : Contact) (hold gap taps : ℕ) → n ≤ 179 → QuietFor n (pressed k (raised hold gap taps))
 pressed_quiet n k hold gap taps h m under = paddle.hold_comes m k hold gap taps ∙ rw (ne_eqb 179 m (λ e. omega arith))
 
-let_go_quiet : (n : ℕ) (k : Contact) (hold gap taps : ℕ) → n < 180 → gesture_for n k (raised hold gap taps) ≡ Nothing
+let_go_quiet : (n : ℕ) (k : Contact) (hold gap taps : ℕ) → n < 180 → gesture_for n k (raised hold gap taps) ≡ None
 let_go_quiet n k hold gap taps h =
     two_ways n 60 (λ short. (paddle.too_short n k hold gap taps short).1) (λ long. (paddle.a_tap n k hold gap taps long h).1)
 
@@ -567,16 +567,16 @@ module _ (hold taps : ℕ) where
   unfolding wait wait_for down due less
   run_quiet m under = paddle.quiet m (raised hold 180 (suc taps)) (rw (ne_eqb (suc taps) 0 (λ e. omega arith)) (ne_eqb 179 m (λ e. omega arith)))
 
-  run_due : gesture (paddle_ticks 179 (raised hold 180 (suc taps))) ≡ Taps (suc taps)
+  run_due : gesture (paddle_ticks 179 (raised hold 180 (suc taps))) ≡ Some (Taps (suc taps))
   unfolding closing
   run_due = paddle.closes hold 180 (suc taps) ∙ rw (ne_eqb (suc taps) 0 (λ e. omega arith))
 
   run_gone : (n gap : ℕ) → gap ≡ suc n → next_paddle (paddle_ticks n (raised hold gap (suc taps))) ≡ raised hold 0 0
   unfolding paddle_ticks paddle_skip down wait wait_for past less_by less
   run_gone n gap e =
-      let completes_nothing : gap - suc n ≡ 0 = omega arith in
+      let gone : gap - suc n ≡ 0 = omega arith in
       sym (paddle.skip_ticks (suc n) (raised hold gap (suc taps)))
-      ∙ rw (ne_eqb (suc taps) 0 (λ e. omega arith)) (rw (lt-ltb (gap - 1) (suc n) (omega arith), completes_nothing))
+      ∙ rw (ne_eqb (suc taps) 0 (λ e. omega arith)) (rw (lt-ltb (gap - 1) (suc n) (omega arith), gone))
 
 -- ---- a switch at rest
 
@@ -603,11 +603,11 @@ module _ (s : Switch Plain) (contact : ℕ) (known : contact < contact_count) (i
 
   -- What a gesture does to the dimmer of a switch as s was.
   does_as : (g : Gesture) (own : Paddle) (others : List Paddle) (t : Switch Plain) → Now own others t
-      → (acted t.plain.registers (paddle_of contact) g (aged t.plain.core)).core.dimmer ≡ dimmer_by g contact s
+      → (acted t.plain.registers (paddle_of contact) (Some g) (aged t.plain.core)).core.dimmer ≡ dimmer_by g contact s
   unfolding aged
   does_as g own others t now =
       same_acted s.plain.registers t.plain.registers now.registers (paddle_of contact) s.plain.core (aged t.plain.core)
-      (ap ticked now.has ∙ idle_ticked (dimmer_in s) idle) g now.mode
+      (ap ticked now.has ∙ idle_ticked (dimmer_in s) idle) (Some g) now.mode
 
   module _ (others : List Paddle) (done : AllDone others) where
     module _ (hold gap taps : ℕ) (t : Switch Plain) (now : Now (raised hold gap taps) others t) where
@@ -635,7 +635,7 @@ module _ (s : Switch Plain) (contact : ℕ) (known : contact < contact_count) (i
           subst (λ (p : Paddle). After p (map (paddle_ticks n) others) t (press_of n contact)) (paddle.a_tap n (kind_of contact) hold gap taps least most).0 (let_go_after n most)
 
     -- The run closes.
-    run_closes : (hold taps : ℕ) (es : List Event) → Plainly (mode_in s) (Taps (suc taps)) → After (raised hold 180 (suc taps)) others s es → IsTaps (suc taps) contact s es
+    run_closes : (hold taps : ℕ) (es : List Event) → Plainly (mode_in s) (Some (Taps (suc taps))) → After (raised hold 180 (suc taps)) others s es → IsTaps (suc taps) contact s es
     run_closes hold taps es plain gone =
         let i = paddle_of contact in
         let g = Taps (suc taps) in
@@ -644,7 +644,7 @@ module _ (s : Switch Plain) (contact : ℕ) (known : contact < contact_count) (i
         let t = run_of s es in
         let all = then_after tapped others (paddle_ticks 179 tapped) (map (paddle_ticks 179) others) s es (ticks_of 179) gone (ticks_after 179 tapped others t gone.now (run_quiet hold taps) done) in
         let u = run_of s (es ++ ticks_of 179) in
-        let acts = tick_acts s (dimmer_in s) contact (paddle_ticks 179 tapped) (map (paddle_ticks 179) others) u all.now g (subst (λ (m : Mode). Plainly m g) (sym all.now.mode) plain) E
+        let acts = tick_acts s (dimmer_in s) contact (paddle_ticks 179 tapped) (map (paddle_ticks 179) others) u all.now (Some g) (subst (λ (m : Mode). Plainly m (Some g)) (sym all.now.mode) plain) E
         (does_as g (paddle_ticks 179 tapped) (map (paddle_ticks 179) others) u all.now) (run_due hold taps) (done 179) in
         let last : run_of s (es ++ ticks_of 180) ≡ (respond u (with_room tick)).next =
         run_joined s es (ticks_of 180) ∙ run_more 179 t ∙ ap (λ (v : Switch Plain). (respond v (with_room tick)).next) (sym (run_joined s es (ticks_of 179))) in
@@ -732,13 +732,13 @@ module _ (s : Switch Plain) (contact : ℕ) (known : contact < contact_count) (i
         let o-done = all_ticks 179 others others_done in
         let held = pressed_for others others_done mine.hold mine.gap 0 s at_first 179 (omega arith) in
         let t = run_of s (with_room (press contact) ∷ ticks_of 179) in
-        let acts = tick_acts s (dimmer_in s) contact down o t held.now Hold (holding_on (mode_in t)) E (does_as Hold down o t held.now)
+        let acts = tick_acts s (dimmer_in s) contact down o t held.now (Some Hold) (holding_on (mode_in t)) E (does_as Hold down o t held.now)
         (paddle.hold_comes 179 k mine.hold mine.gap 0) (others_done 179) in
         let u = run_of s (with_room (press contact) ∷ ticks_of 180) in
         let now = subst (Like s E i (next_paddle down) (map next_paddle o)) (sym one_tick_more) acts.now in
-        let F = (acted u.plain.registers i Release u.plain.core).core.dimmer in
+        let F = (acted u.plain.registers i (Some Release) u.plain.core).core.dimmer in
         let drive = contact_drives contact known in
-        let up = release_acts s E contact (next_paddle down) (map next_paddle o) u now Release (letting_go (mode_in u)) F known refl (paddle.a_hold 180 k mine.hold mine.gap 0 (omega arith)).1 in
+        let up = release_acts s E contact (next_paddle down) (map next_paddle o) u now (Some Release) (letting_go (mode_in u)) F known refl (paddle.a_hold 180 k mine.hold mine.gap 0 (omega arith)).1 in
         let level : F.level ≡ E.level = released_level u.plain.registers i u.plain.core drive ∙ ap (λ (x : Dimmer). x.level) now.has in
         let stops : F.motion ≡ Idle = released_idle u.plain.registers i u.plain.core drive
         (λ setup. ap (λ (x : Dimmer). x.motion) now.has ∙ held_in_setup s.plain.registers i s.plain.core (sym now.mode ∙ setup) ∙ idle) in

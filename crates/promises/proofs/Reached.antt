@@ -1,4 +1,5 @@
 -- Every start leads to a tick that passes Setup unseen, by the paddles alone.
+use Rattle.std.specs.Prelude.{Option, Some, None}
 use mathlib.Core.Bool.{false}
 use mathlib.Core.List.{List, [], ◌∷◌, ◌++◌, map}
 use mathlib.Core.Path.{◌≡◌, refl, sym, ap, ap₂, ◌∙◌, subst}
@@ -17,7 +18,7 @@ use Rattle.paddle.specs.Paddle.{closing, completed, one_tap_more, down, ends, fr
 use Rattle.paddle.specs.Promises.{raised, paddle_ticks}
 use Rattle.paddle.specs.declared.Contact.TheVariants.{Local}
 use Rattle.paddle.specs.declared.Gesture.{Gesture}
-use Rattle.paddle.specs.declared.Gesture.TheVariants.{Nothing, Taps}
+use Rattle.paddle.specs.declared.Gesture.TheVariants.{Taps}
 use Rattle.paddle.specs.declared.Paddle.{Paddle}
 use Rattle.paddle.proofs.Laws.{a_tap, hold_comes, run_open}
 use Rattle.model.specs.Model.{kind_of, paddle_of, room, paddle_count}
@@ -77,7 +78,7 @@ ticks_more (suc n) m p = let e : suc (n + m) ≡ suc n + m = omega arith in ap n
 
 -- A paddle that completes nothing in n ticks.
 abbrev Quiet : ℕ → Paddle → Type 0
-Quiet n p = (k : ℕ) → k < n → gesture (paddle_ticks k p) ≡ Nothing
+Quiet n p = (k : ℕ) → k < n → gesture (paddle_ticks k p) ≡ None
 
 -- A paddle that was not touched stays as it is.
 fresh_ticks : (n : ℕ) → paddle_ticks n fresh_paddle ≡ fresh_paddle
@@ -85,7 +86,7 @@ unfolding paddle_ticks next_paddle left taps_kept less down ends
 fresh_ticks zero = refl
 fresh_ticks (suc n) = ap next_paddle (fresh_ticks n)
 
-fresh_gesture : gesture fresh_paddle ≡ Nothing
+fresh_gesture : gesture fresh_paddle ≡ None
 unfolding gesture ends completed closing down
 fresh_gesture = refl
 
@@ -100,12 +101,12 @@ all_fresh n (suc m) = ap₂ (λ (p : Paddle) (ps : List Paddle). p ∷ ps) (fres
 fresh_still : (m : ℕ) → Still (fresh_from m)
 unfolding fresh_from
 fresh_still zero = refl
-fresh_still (suc m) = ap₂ (λ (g : Gesture) (gs : List Gesture). g ∷ gs) fresh_gesture (fresh_still m)
+fresh_still (suc m) = ap₂ (λ (g : Option Gesture) (gs : List (Option Gesture)). g ∷ gs) fresh_gesture (fresh_still m)
 
-both_still : (n : ℕ) (a b : Paddle) → gesture (paddle_ticks n a) ≡ Nothing → gesture (paddle_ticks n b) ≡ Nothing → Still (map (paddle_ticks n) (a ∷ b ∷ behind))
+both_still : (n : ℕ) (a b : Paddle) → gesture (paddle_ticks n a) ≡ None → gesture (paddle_ticks n b) ≡ None → Still (map (paddle_ticks n) (a ∷ b ∷ behind))
 both_still n a b p q =
-    ap₂ (λ (g : Gesture) (gs : List Gesture). g ∷ gs) p
-    (ap₂ (λ (g : Gesture) (gs : List Gesture). g ∷ gs) q (subst Still (sym (all_fresh n (paddle_count - 2))) (fresh_still (paddle_count - 2))))
+    ap₂ (λ (g : Option Gesture) (gs : List (Option Gesture)). g ∷ gs) p
+    (ap₂ (λ (g : Option Gesture) (gs : List (Option Gesture)). g ∷ gs) q (subst Still (sym (all_fresh n (paddle_count - 2))) (fresh_still (paddle_count - 2))))
 
 both_ticks : (n : ℕ) (s : Switch Plain) (a b : Paddle) → At s a b → Quiet n a → Quiet n b → At (run_of s (ticks_of n)) (paddle_ticks n a) (paddle_ticks n b)
 both_ticks n s a b k p q =
@@ -234,7 +235,7 @@ to_factory image =
     ready (run_of s4 with_two) _ 60 120 5 10 k5 (five_joined s0 with_two with_two with_two with_two with_two (ticks_of 179))
 
 -- There the next tick passes Setup: the top paddle opens it, the bottom one leaves it, and those behind do nothing.
-stays : (mode : Mode) → leads mode Nothing ≡ mode
+stays : (mode : Mode) → leads mode None ≡ mode
 unfolding leads
 stays Normal = refl
 stays Setup = refl
@@ -246,11 +247,11 @@ behind_leads mode zero = refl
 behind_leads mode (suc m) =
     ap (λ (now : Mode). mode_for now (fresh_from m) (length (fresh_from m))) (ap (leads mode) fresh_gesture ∙ stays mode) ∙ behind_leads mode m
 
-five_opens : leads Normal (Taps 5) ≡ Setup
+five_opens : leads Normal (Some (Taps 5)) ≡ Setup
 unfolding leads
 five_opens = refl
 
-run_closes : (hold count : ℕ) → gesture (raised hold 1 (suc count)) ≡ Taps (suc count)
+run_closes : (hold count : ℕ) → gesture (raised hold 1 (suc count)) ≡ Some (Taps (suc count))
 unfolding gesture ends completed closing down
 run_closes hold count = rw (ne_eqb (suc count) 0 (λ e. omega arith))
 
@@ -263,11 +264,11 @@ module _ (s : Switch Plain) (hold hold' count : ℕ) (k : At s (raised hold 1 5)
     finds = rw k.paddles (ap₂ leads k.mode (run_closes hold 4) ∙ five_opens);
   }
 
-  end_mode : mode_at s (length s.plain.paddles) ≡ leads Setup (Taps (suc count))
+  end_mode : mode_at s (length s.plain.paddles) ≡ leads Setup (Some (Taps (suc count)))
   unfolding mode_for
   end_mode = rw k.paddles (behind_leads _ (paddle_count - 2) ∙ ap₂ leads (ap₂ leads k.mode (run_closes hold 4) ∙ five_opens) (run_closes hold' count))
 
-  reaches : (to : Mode) → leads Setup (Taps (suc count)) ≡ to → in_setup to ≡ false → Reaches s to
+  reaches : (to : Mode) → leads Setup (Some (Taps (suc count))) ≡ to → in_setup to ≡ false → Reaches s to
   unfolding in_setup
   reaches to leave shut = record {
     passes = record {

@@ -1,4 +1,5 @@
 -- Ticks of a switch in which no paddle completes a gesture: one of them, many of them in closed form, and what they show.
+use Rattle.std.specs.Prelude.{Option, None}
 use mathlib.Core.Bool.{Bool, true, false}
 use mathlib.Core.List.{List, [], ◌∷◌, ◌++◌, map}
 use mathlib.Core.Path.{◌≡◌, refl, sym, ap, ap₂, ◌∙◌, subst}
@@ -26,10 +27,9 @@ use Rattle.dimmer.proofs.Laws.{ticked_more, ticked_none}
 use Rattle.paddle.specs.Paddle.{down, fresh_paddle, gesture, next_paddle}
 use Rattle.paddle.specs.Promises.{raised, paddle_skip, paddle_ticks, wait, wait_for}
 use Rattle.paddle.specs.declared.Gesture.{Gesture}
-use Rattle.paddle.specs.declared.Gesture.TheVariants.{Nothing}
 use Rattle.paddle.specs.declared.Paddle.{Paddle}
 use Rattle.paddle.proofs.Laws as paddle
-use Rattle.paddle.specs.Code.{completes_nothing, due}
+use Rattle.paddle.specs.Code.{due}
 use Rattle.lamp.specs.Lamp.{next_lamp}
 use Rattle.lamp.specs.Promises.{lamp_skip}
 use Rattle.lamp.specs.declared.Lamp.{Lamp}
@@ -118,7 +118,7 @@ save_keeps c = both (λ (w : Write). change (change_at w [] first_place) (change
 
 -- No paddle of the list completes a gesture.
 abbrev pub Still : List Paddle → Type 0
-Still ps = map gesture ps ≡ replicate (length ps) Nothing
+Still ps = map gesture ps ≡ replicate (length ps) None
 
 pub quiet_tick : (s : Switch Plain) (lent : ℕ) → room ≤ lent → Still s.plain.paddles
     → respond s (event lent tick) ≡ told 0 [] (ticked_plain s.plain) s.password
@@ -276,9 +276,9 @@ registers_by_lem (suc n) p = ap (λ (all : List ℕ). applied (to_save (aged (co
 
 -- ---- a switch that is left to itself
 
-quiet_each : (k : ℕ) (ps : List Paddle) → ((i : ℕ) → i < length ps → gesture (paddle_ticks k (get_or ps i fresh_paddle)) ≡ Nothing) → Still (map (paddle_ticks k) ps)
+quiet_each : (k : ℕ) (ps : List Paddle) → ((i : ℕ) → i < length ps → gesture (paddle_ticks k (get_or ps i fresh_paddle)) ≡ None) → Still (map (paddle_ticks k) ps)
 quiet_each k [] each = refl
-quiet_each k (p ∷ ps) each = ap₂ (λ (g : Gesture) (gs : List Gesture). g ∷ gs) (each 0 (omega arith)) (quiet_each k ps (λ i h. each (suc i) (omega arith)))
+quiet_each k (p ∷ ps) each = ap₂ (λ (g : Option Gesture) (gs : List (Option Gesture)). g ∷ gs) (each 0 (omega arith)) (quiet_each k ps (λ i h. each (suc i) (omega arith)))
 
 -- A paddle's number is one of its contacts.
 pub own_contact : (i : ℕ) → i < paddle_count → paddle_of i ≡ i
@@ -323,12 +323,12 @@ pub left_to_itself : LeftToItself
 left_to_itself s n count steady silent some = left_quiet s n (silent_quiet n s count silent) steady some
 
 -- A paddle that is up with no tap counted.
-pub untapped : (k hold gap : ℕ) → gesture (paddle_ticks k (raised hold gap 0)) ≡ Nothing
+pub untapped : (k hold gap : ℕ) → gesture (paddle_ticks k (raised hold gap 0)) ≡ None
 unfolding wait wait_for down due
 untapped k hold gap = paddle.quiet k (raised hold gap 0) refl
 
 pub up_untapped : (p : Paddle) → down p ≡ false → p.taps ≡ 0 → p ≡ raised p.hold p.gap 0
-up_untapped p up completes_nothing = paddle.up_raised p up ∙ ap (λ (taps : ℕ). raised p.hold p.gap taps) completes_nothing
+up_untapped p up untapped' = paddle.up_raised p up ∙ ap (λ (taps : ℕ). raised p.hold p.gap taps) untapped'
 
 -- A switch whose paddles are left as they were is still at rest, where it does not flash.
 pub rest_as : (s t : Switch Plain) → t.plain.paddles ≡ s.plain.paddles → Steady t → AtRest s → AtRest t

@@ -1,5 +1,5 @@
 -- What the gestures of a tick find: the paddles act one after the other, each in the mode that the one before it left.
-use Rattle.std.specs.Prelude.{List, [], ◌∷◌, ◌≡◌, ℕ, zero, suc, ◌≤◌, ◌<◌, length, get_or, take}
+use Rattle.std.specs.Prelude.{List, [], ◌∷◌, ◌≡◌, ℕ, zero, suc, ◌≤◌, ◌<◌, length, get_or, take, Some}
 use Rattle.vault.specs.Job.{Switch}
 use Rattle.vault.specs.declared.Mode.{Mode}
 use Rattle.paddle.specs.Paddle.{fresh_paddle, gesture}
@@ -31,5 +31,5 @@ pub record FindsModes : Type 0 where
 -- At a tick, paddle i closes a run of so many taps, and finds this mode.
 pub record Closes (s : Switch Plain) (i : ℕ) (mode : Mode) (count : ℕ) : Type 0 where
   pub there : i < length s.plain.paddles
-  pub taps : gesture (get_or s.plain.paddles i fresh_paddle) ≡ Taps count
+  pub taps : gesture (get_or s.plain.paddles i fresh_paddle) ≡ Some (Taps count)
   pub finds : mode_at s i ≡ mode

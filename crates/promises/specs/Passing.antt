@@ -1,5 +1,5 @@
 -- What a tick writes, place by place, and the tick that passes Setup unseen.
-use Rattle.std.specs.Prelude.{Bool, true, false, ◌||◌, List, [], ◌∷◌, ◌++◌, ◌↔◌, ◌⊎◌, ◌≡◌, ℕ, zero, suc, ◌+◌, ◌≤◌, ◌<◌, eqb, length, if◌then◌else◌}
+use Rattle.std.specs.Prelude.{Bool, true, false, ◌||◌, List, [], ◌∷◌, ◌++◌, ◌↔◌, ◌⊎◌, ◌≡◌, ℕ, zero, suc, ◌+◌, ◌≤◌, ◌<◌, eqb, length, if◌then◌else◌, Option, Some, None}
 use Rattle.units.specs.Units.{percent_of}
 use Rattle.units.specs.declared.Step.{Step}
 use Rattle.vault.specs.Job.{Switch}
@@ -25,20 +25,20 @@ use Rattle.promises.specs.Modes.{Closes, mode_at}
 use Rattle.promises.specs.Opening.{Enters}
 
 -- A run of so many taps is closed.
-unfoldable pub closed : ℕ → Gesture → Bool
-closed count gestures.Nothing = false
-closed count (gestures.Taps n) = eqb n count
-closed count gestures.Hold = false
-closed count gestures.Release = false
+unfoldable pub closed : ℕ → Option Gesture → Bool
+closed count None = false
+closed count (Some (gestures.Taps n)) = eqb n count
+closed count (Some gestures.Hold) = false
+closed count (Some gestures.Release) = false
 
 -- The gesture enters Setup: five taps that find Normal.
-unfoldable pub opens : Mode → Gesture → Bool
+unfoldable pub opens : Mode → Option Gesture → Bool
 opens Normal g = closed 5 g
 opens Setup g = false
 opens Factory g = false
 
 -- The gesture sets the factory values: ten taps that find Setup.
-unfoldable pub resets : Mode → Gesture → Bool
+unfoldable pub resets : Mode → Option Gesture → Bool
 resets Normal g = false
 resets Setup g = closed 10 g
 resets Factory g = false

@@ -1,5 +1,5 @@
 -- What is seen of a switch over presses and ticks: runs of events, the ticks of a switch that is left to itself, and what a gesture shows.
-use Rattle.std.specs.Prelude.{false, List, [], ◌∷◌, ◌++◌, map, ◌≡◌, ℕ, zero, suc, ◌-◌, ◌/◌, ◌≤◌, ◌<◌, eqb, length, if◌then◌else◌}
+use Rattle.std.specs.Prelude.{false, List, [], ◌∷◌, ◌++◌, map, ◌≡◌, ℕ, zero, suc, ◌-◌, ◌/◌, ◌≤◌, ◌<◌, eqb, length, if◌then◌else◌, Some, None}
 use Rattle.timers.specs.Timers.{beats_by, less, metronome_by}
 use Rattle.units.specs.Units.{off, percent_of, step}
 use Rattle.units.specs.declared.Step.{Step}
@@ -12,7 +12,7 @@ use Rattle.dimmer.specs.declared.Dimmer.{Dimmer}
 use Rattle.paddle.specs.Paddle.{down, gesture}
 use Rattle.paddle.specs.Promises.{paddle_skip, paddle_ticks}
 use Rattle.paddle.specs.declared.Gesture.{Gesture}
-use Rattle.paddle.specs.declared.Gesture.TheVariants.{Nothing, Taps, Hold, Release}
+use Rattle.paddle.specs.declared.Gesture.TheVariants.{Taps, Hold, Release}
 use Rattle.paddle.specs.declared.Paddle.{Paddle}
 use Rattle.lamp.specs.Promises.{lamp_skip}
 use Rattle.lamp.specs.declared.Colour.{Colour}
@@ -98,7 +98,7 @@ nth_tick s n = next_tick (run_of s (ticks_of (n - 1)))
 
 -- No paddle completes a gesture in the next n ticks.
 abbrev pub Silent : ℕ → Switch Plain → Type 0
-Silent n s = (contact k : ℕ) → k < n → gesture (paddle_ticks k (paddle_at contact s.plain.paddles)) ≡ Nothing
+Silent n s = (contact k : ℕ) → k < n → gesture (paddle_ticks k (paddle_at contact s.plain.paddles)) ≡ None
 
 -- The nth tick of a silent switch is answered 0, sends nothing and leaves the mode, and the level is the dimmer's closed form after n ticks,
 -- whatever fades or blinks.
@@ -149,11 +149,11 @@ RestIsSilent = (s : Switch Plain) (n : ℕ) → AtRest s → Silent n s
 
 -- The dimmer after the act of a gesture.
 abbrev pub dimmer_by : Gesture → ℕ → Switch Plain → Dimmer
-dimmer_by g contact s = (acted s.plain.registers (paddle_of contact) g s.plain.core).core.dimmer
+dimmer_by g contact s = (acted s.plain.registers (paddle_of contact) (Some g) s.plain.core).core.dimmer
 
 -- The packets that a gesture sends at a level.
 abbrev pub packets_by : Gesture → ℕ → Switch Plain → Step → List (List ℕ)
-packets_by g contact s level = announced s.plain.registers (mode_in s) (paddle_of contact) g (percent_of level)
+packets_by g contact s level = announced s.plain.registers (mode_in s) (paddle_of contact) (Some g) (percent_of level)
 
 -- A gesture acts, sends at the level after the act, and leaves the mode.
 abbrev pub ShowsGesture : Gesture → ℕ → Switch Plain → Shown → Type 0

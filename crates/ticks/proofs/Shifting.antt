@@ -1,5 +1,5 @@
 -- A tick whose one gesture is a run of taps that moves the mode: what the paddles' turns come to.
-use Rattle.std.specs.Prelude.{◌≡◌, ℕ, ◌+◌, Bool, true, false, ◌||◌, eqb, List, [], ◌∷◌, Some, None}
+use Rattle.std.specs.Prelude.{◌≡◌, ℕ, ◌+◌, Bool, true, false, ◌||◌, eqb, List, [], ◌∷◌, Some, None, Option}
 use mathlib.Core.Path.{refl, ap, ◌∙◌}
 use mathlib.Core.List.{append-nil}
 use borrow.Author.Tests.{eqb-true}
@@ -10,7 +10,7 @@ use Rattle.vault.specs.Job.{followed}
 use Rattle.vault.specs.declared.Mode.{Mode}
 use Rattle.vault.specs.declared.Mode.TheVariants.{Normal, Setup, Factory}
 use Rattle.paddle.specs.declared.Gesture.{Gesture}
-use Rattle.paddle.specs.declared.Gesture.TheVariants.{Nothing, Taps, Hold, Release}
+use Rattle.paddle.specs.declared.Gesture.TheVariants.{Taps, Hold, Release}
 use Rattle.places.specs.Places.{transmit_in}
 use Rattle.registers.specs.Registers.{valid}
 use Rattle.writes.specs.Writes.{applied, change_of}
@@ -26,30 +26,30 @@ use Rattle.moves.specs.Code.{alongside, lone, shifts}
 
 -- Where one run of taps is all that the paddles complete, their turns are the turn of that run.
 still_one :
-    (gs : List Gesture) (n taps : ℕ) → alongside (Some n) gs ≡ Some taps
+    (gs : List (Option Gesture)) (n taps : ℕ) → alongside (Some n) gs ≡ Some taps
     → (n ≡ taps) × ((i : ℕ) (m : Moment) → turns_by i gs m ≡ m)
 unfolding alongside turns_by
 still_one [] n taps h = (cc, λ i m. refl)
-still_one (Nothing ∷ gs) n taps h =
+still_one (None ∷ gs) n taps h =
     let rest = still_one gs n taps h in
     (rest.0, λ i m. ap (turns_by (i + 1) gs) (turned_nothing i m) ∙ rest.1 (i + 1) m)
-still_one (Taps k ∷ gs) n taps h = absurd (none-some taps h)
-still_one (Hold ∷ gs) n taps h = absurd (none-some taps h)
-still_one (Release ∷ gs) n taps h = absurd (none-some taps h)
+still_one (Some (Taps k) ∷ gs) n taps h = absurd (none-some taps h)
+still_one (Some Hold ∷ gs) n taps h = absurd (none-some taps h)
+still_one (Some Release ∷ gs) n taps h = absurd (none-some taps h)
 
 one_turned :
-    (gs : List Gesture) (i taps : ℕ) → alongside None gs ≡ Some taps
-    → (j : ℕ) × ((m : Moment) → turns_by i gs m ≡ turned j (Taps taps) m)
+    (gs : List (Option Gesture)) (i taps : ℕ) → alongside None gs ≡ Some taps
+    → (j : ℕ) × ((m : Moment) → turns_by i gs m ≡ turned j (Some (Taps taps)) m)
 unfolding alongside turns_by
 one_turned [] i taps h = absurd (none-some taps h)
-one_turned (Nothing ∷ gs) i taps h =
+one_turned (None ∷ gs) i taps h =
     let rest = one_turned gs (i + 1) taps h in
     (rest.0, λ m. ap (turns_by (i + 1) gs) (turned_nothing i m) ∙ rest.1 m)
-one_turned (Taps k ∷ gs) i taps h =
+one_turned (Some (Taps k) ∷ gs) i taps h =
     let rest = still_one gs k taps h in
-    (i, λ m. rest.1 (i + 1) (turned i (Taps k) m) ∙ ap (λ (n : ℕ). turned i (Taps n) m) rest.0)
-one_turned (Hold ∷ gs) i taps h = absurd (none-some taps h)
-one_turned (Release ∷ gs) i taps h = absurd (none-some taps h)
+    (i, λ m. rest.1 (i + 1) (turned i (Some (Taps k)) m) ∙ ap (λ (n : ℕ). turned i (Some (Taps n)) m) rest.0)
+one_turned (Some Hold ∷ gs) i taps h = absurd (none-some taps h)
+one_turned (Some Release ∷ gs) i taps h = absurd (none-some taps h)
 
 -- Taps that move the mode enter it, write what they write, and send nothing.
 either : (a b : Bool) {X : Type 0} → (a ≡ true → X) → (b ≡ true → X) → (a || b) ≡ true → X
@@ -58,19 +58,19 @@ either false b left right h = right h
 
 shift_acts :
     (mode : Mode) (n : ℕ) (all : List ℕ) (i : ℕ) (c : Core) → shifts mode n ≡ true
-    → acted_in mode all i (Taps n) c ≡ effect (entering (leads mode (Taps n)) c) (writes mode (Taps n))
+    → acted_in mode all i (Some (Taps n)) c ≡ effect (entering (leads mode (Some (Taps n))) c) (writes mode (Some (Taps n)))
 unfolding shifts acted_in acted_in_normal acted_in_setup acted_in_factory taps_in_normal taps_in_setup taps_in_factory leads writes opened unwritten
 shift_acts Normal n all i c h = rw (eqb-true n 5 h)
 shift_acts Setup n all i c h = either (eqb n 2) (eqb n 10) (λ e. rw (eqb-true n 2 e)) (λ e. rw (eqb-true n 10 e)) h
 shift_acts Factory n all i c h = rw (eqb-true n 2 h)
 
-shift_message : (mode : Mode) (n : ℕ) (all : List ℕ) (i : ℕ) (p : Percent) → shifts mode n ≡ true → bytes_of (gesture_message all mode i (Taps n) p) ≡ []
+shift_message : (mode : Mode) (n : ℕ) (all : List ℕ) (i : ℕ) (p : Percent) → shifts mode n ≡ true → bytes_of (gesture_message all mode i (Some (Taps n)) p) ≡ []
 unfolding shifts gesture_message chosen command_number gesture_number bytes_of
 shift_message Normal n all i p h = rw (eqb-true n 5 h)
 shift_message Setup n all i p h = refl
 shift_message Factory n all i p h = rw (eqb-true n 2 h)
 
-shift_silent : (mode : Mode) (n : ℕ) (all : List ℕ) (i : ℕ) (p : Percent) → shifts mode n ≡ true → announced all mode i (Taps n) p ≡ []
+shift_silent : (mode : Mode) (n : ℕ) (all : List ℕ) (i : ℕ) (p : Percent) → shifts mode n ≡ true → announced all mode i (Some (Taps n)) p ≡ []
 unfolding announced enveloped
 shift_silent mode n all i p h =
     rw (shift_message mode n all i p h) (both (λ (l : List (List ℕ)). l ≡ []) (valid (transmit_in all i).link) refl refl)
@@ -79,8 +79,8 @@ shift_turned :
     (i n : ℕ) (m : Moment)
     → let mode = m.core.mode in
     shifts mode n ≡ true
-    → turned i (Taps n) m
-    ≡ moment (applied (writes mode (Taps n)) [] m.registers) (entering (leads mode (Taps n)) m.core) m.sent (followed m.change (change_of (writes mode (Taps n)) []))
+    → turned i (Some (Taps n)) m
+    ≡ moment (applied (writes mode (Some (Taps n))) [] m.registers) (entering (leads mode (Some (Taps n))) m.core) m.sent (followed m.change (change_of (writes mode (Some (Taps n))) []))
 unfolding turned after acted
 shift_turned i n m h =
     let mode = m.core.mode in
@@ -88,11 +88,11 @@ shift_turned i n m h =
 
 -- So the turns of a tick whose lone taps move the mode.
 pub lone_turns :
-    (gs : List Gesture) (taps : ℕ) (m : Moment)
+    (gs : List (Option Gesture)) (taps : ℕ) (m : Moment)
     → let mode = m.core.mode in
     lone gs ≡ Some taps → shifts mode taps ≡ true
     → turns_by 0 gs m
-    ≡ moment (applied (writes mode (Taps taps)) [] m.registers) (entering (leads mode (Taps taps)) m.core) m.sent (followed m.change (change_of (writes mode (Taps taps)) []))
+    ≡ moment (applied (writes mode (Some (Taps taps))) [] m.registers) (entering (leads mode (Some (Taps taps))) m.core) m.sent (followed m.change (change_of (writes mode (Some (Taps taps))) []))
 unfolding lone
 lone_turns gs taps m alone h =
     let one = one_turned gs 0 taps alone in

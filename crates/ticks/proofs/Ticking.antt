@@ -1,5 +1,5 @@
 -- A tick over what its callees promise.
-use Rattle.std.specs.Prelude.{◌≡◌, ℕ, ◌≤◌, Bool, true, List, [], Some, map, length}
+use Rattle.std.specs.Prelude.{◌≡◌, ℕ, ◌≤◌, Bool, true, List, [], Some, map, length, Option}
 use mathlib.Core.Path.{refl, sym, ap, subst, ◌∙◌}
 use Rattle.words.proofs.Laws.{both}
 use Rattle.timers.specs.Timers.{beats}
@@ -87,7 +87,7 @@ saved_stands m began c all all' packets w e s save apply =
 
 -- A tick with all its stages.
 pub ticks_all :
-    (c n l all out : List ℕ) (gs : List Gesture) (l' : List ℕ) (core old next : Core) (w w' : Password) (all₁ all₂ : List ℕ) (packets : List (List ℕ)) (e : Effect)
+    (c n l all out : List ℕ) (gs : List (Option Gesture)) (l' : List ℕ) (core old next : Core) (w w' : Password) (all₁ all₂ : List ℕ) (packets : List (List ℕ)) (e : Effect)
     (r : Answer) (c' n' out' : List ℕ)
     → panel.Ticks l gs l' → core ≡ core_of c n → old ≡ aged core → w ≡ password_of n
     → Stands (turns_by 0 gs (moment all old [] nothing)) w next all₁ packets w'
@@ -131,7 +131,7 @@ unsignalled c = refl
 
 -- A tick whose lone taps move the mode.
 pub ticks_shift :
-    (c n l all out : List ℕ) (gs : List Gesture) (l' : List ℕ) (taps : ℕ) (mode : Mode) (moves : Bool) (c' n' all' : List ℕ) (none : Sent) (r : Answer)
+    (c n l all out : List ℕ) (gs : List (Option Gesture)) (l' : List ℕ) (taps : ℕ) (mode : Mode) (moves : Bool) (c' n' all' : List ℕ) (none : Sent) (r : Answer)
     → Sized c n → panel.Ticks l gs l' → lone gs ≡ Some taps → mode ≡ mode_in n → moves ≡ shifts mode taps → moves ≡ true
     → Shifts taps c n all c' n' all' → none ≡ tally [] → r ≡ answer_with 0 none all' (core_of c' n')
     → Ticks c n l all out r c' n' l' all' out
@@ -141,12 +141,12 @@ ticks_shift c n l all out gs l' taps mode moves c' n' all' none r sized ticks al
     let k = core_of c n in
     let m₀ = moment all (aged k) [] nothing in
     let w = password_of n in
-    let done : Moment = moment (applied (writes k.mode (Taps taps)) [] all) (shifted taps k) [] (change_of (writes k.mode (Taps taps)) []) in
+    let done : Moment = moment (applied (writes k.mode (Some (Taps taps))) [] all) (shifted taps k) [] (change_of (writes k.mode (Some (Taps taps))) []) in
     let yes'' : shifts (mode_in n) taps ≡ true = rw (← is) (sym tells ∙ yes') in
     let turned : turns 0 ps m₀ ≡ done =
-    turns_by_lem 0 ps m₀ ∙ ap (λ (g : List Gesture). turns_by 0 g m₀) (sym ticks.completed) ∙ lone_turns gs taps m₀ alone yes'' ∙ rw followed_nothing in
+    turns_by_lem 0 ps m₀ ∙ ap (λ (g : List (Option Gesture)). turns_by 0 g m₀) (sym ticks.completed) ∙ lone_turns gs taps m₀ alone yes'' ∙ rw followed_nothing in
     let last = after (saved (shifted taps k)) done in
-    leaves_shown _ 0 [] (saved (shifted taps k)).core (changed (change_of (writes k.mode (Taps taps)) []) w) (map next_paddle ps) c n l out none r c' n' l' all' out sized
+    leaves_shown _ 0 [] (saved (shifted taps k)).core (changed (change_of (writes k.mode (Some (Taps taps))) []) w) (map next_paddle ps) c n l out none r c' n' l' all' out sized
     (ap (λ (m : Moment). settled w (finished (after (saved m.core) m) (map next_paddle ps))) turned
     ∙ says_finished last (map next_paddle ps) w
     ∙ rw (unsignalled (saved (shifted taps k)).core, saved_keeps (shifted taps k), nothing_followed, shifted'.registers))

@@ -1,5 +1,5 @@
 -- What the inner functions of the code promise: no promise under the roof needs a definition of this file.
-use Rattle.std.specs.Prelude.{◌≡◌, ℕ, List}
+use Rattle.std.specs.Prelude.{◌≡◌, ℕ, List, Option}
 use Rattle.vault.specs.Job.{settled}
 use Rattle.vault.specs.declared.Password.{Password}
 use Rattle.paddle.specs.declared.Gesture.{Gesture}
@@ -26,6 +26,6 @@ Ticks counters numbers paddles all out =
     Leaves (λ a. a) (settled s.password (job_of_tick s.plain)) counters numbers paddles out
 
 -- The same by the gestures that the paddles complete, whatever bytes these stand in.
-abbrev pub Turns : List Gesture → List ℕ → List ℕ → List ℕ → List ℕ → Answer → List ℕ → List ℕ → List ℕ → List ℕ → Type 0
+abbrev pub Turns : List (Option Gesture) → List ℕ → List ℕ → List ℕ → List ℕ → Answer → List ℕ → List ℕ → List ℕ → List ℕ → Type 0
 Turns gs counters numbers all out answer counters' numbers' all' out' =
     (paddles paddles' : List ℕ) → panel.Ticks paddles gs paddles' → Ticks counters numbers paddles all out answer counters' numbers' paddles' all' out'

@@ -74,7 +74,7 @@ fn complete(
 
 // A tick with all its stages: paddles may act and send, the level may be saved.
 fn turn(
-    gestures: [Gesture; PADDLES],
+    gestures: [Option<Gesture>; PADDLES],
     counters: &mut [u16; COUNTERS],
     numbers: &mut [u8; NUMBERS],
     all: &mut [u8; 256],

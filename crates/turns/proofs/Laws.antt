@@ -1,4 +1,5 @@
 -- The gestures one after the other, as the code goes through them: each begins anew with nothing sent and nothing changed.
+use Rattle.std.specs.Prelude.{Option, Some, None}
 use mathlib.Core.Path.{◌≡◌, refl, sym, ap, ◌∙◌}
 use mathlib.Core.Bool.{true, true≢false}
 use mathlib.Core.List.{List, [], ◌∷◌, ◌++◌, map, append-nil}
@@ -15,9 +16,8 @@ use Rattle.vault.specs.declared.Mode.TheVariants.{Normal, Setup, Factory}
 use Rattle.vault.specs.declared.Password.{Password}
 use Rattle.paddle.specs.Paddle.{gesture}
 use Rattle.paddle.specs.declared.Gesture.{Gesture}
-use Rattle.paddle.specs.declared.Gesture.TheVariants.{Nothing, Taps, Hold, Release}
 use Rattle.paddle.specs.declared.Paddle.{Paddle}
-use Rattle.paddle.specs.Code.{completes_nothing}
+use Rattle.std.specs.Option.{is_none}
 use Rattle.model.specs.Model.{paddle_count}
 use Rattle.places.specs.Places.{transmit_in}
 use Rattle.registers.specs.Registers.{valid}
@@ -53,7 +53,7 @@ followed_nothing c = rw (over_kept c.first, over_kept c.second)
 
 -- A gesture in code: the act, its write, the percent, the password and the note.
 pub turned_stands :
-    (all all' : List ℕ) (c : Core) (w w' : Password) (i : ℕ) (g : Gesture) (e : Effect) (p : Percent) (n : Note) (a : After)
+    (all all' : List ℕ) (c : Core) (w w' : Password) (i : ℕ) (g : Option Gesture) (e : Effect) (p : Percent) (n : Note) (a : After)
     → e ≡ acted all i g c
     → all' ≡ applied e.write [] all
     → p ≡ percent_of e.core.dimmer.level
@@ -106,42 +106,39 @@ joined m rest = moment rest.registers rest.core (m.sent ++ rest.sent) (followed 
 abbrev pub anew : Moment → Moment
 anew m = moment m.registers m.core [] nothing
 
-turned_joined : (i : ℕ) (g : Gesture) (m : Moment) → turned i g m ≡ joined m (turned i g (anew m))
+turned_joined : (i : ℕ) (g : Option Gesture) (m : Moment) → turned i g m ≡ joined m (turned i g (anew m))
 unfolding turned after
 turned_joined i g m = rw followed_nothing
 
--- Nothing completed is no gesture, and sends nothing.
-pub nothing_done_lem : (g : Gesture) → completes_nothing g ≡ true → g ≡ Nothing
-unfolding completes_nothing
-nothing_done_lem Nothing h = refl
-nothing_done_lem (Taps n) h = absurd (true≢false (sym h))
-nothing_done_lem Hold h = absurd (true≢false (sym h))
-nothing_done_lem Release h = absurd (true≢false (sym h))
+-- None completed is no gesture, and sends nothing.
+pub nothing_done_lem : (g : Option Gesture) → is_none g ≡ true → g ≡ None
+nothing_done_lem None h = refl
+nothing_done_lem (Some g) h = absurd (true≢false (sym h))
 
-no_message : (mode : Mode) (all : List ℕ) (i : ℕ) (p : Percent) → bytes_of (gesture_message all mode i Nothing p) ≡ []
+no_message : (mode : Mode) (all : List ℕ) (i : ℕ) (p : Percent) → bytes_of (gesture_message all mode i None p) ≡ []
 unfolding gesture_message chosen command_number gesture_number bytes_of
 no_message Normal all i p = refl
 no_message Setup all i p = refl
 no_message Factory all i p = refl
 
-no_packet : (mode : Mode) (all : List ℕ) (i : ℕ) (p : Percent) → announced all mode i Nothing p ≡ []
+no_packet : (mode : Mode) (all : List ℕ) (i : ℕ) (p : Percent) → announced all mode i None p ≡ []
 unfolding announced enveloped
 no_packet mode all i p = rw (no_message mode all i p) (both (λ (l : List (List ℕ)). l ≡ []) (valid (transmit_in all i).link) refl refl)
 
-pub turned_nothing : (i : ℕ) (m : Moment) → turned i Nothing m ≡ m
+pub turned_nothing : (i : ℕ) (m : Moment) → turned i None m ≡ m
 unfolding turned after unwritten applied change_of change_at
 turned_nothing i m =
     rw (nothing_acts m.registers i m.core, no_packet, append-nil m.sent, nothing_followed m.change)
 
 -- So the code may pass it over: its note is none.
-no_note : (all : List ℕ) (mode : Mode) (i : ℕ) (p : Percent) → sent_of (note_of all mode i Nothing p) ≡ []
-no_note all mode i p = note_sent all mode i Nothing p ∙ no_packet mode all i p
+no_note : (all : List ℕ) (mode : Mode) (i : ℕ) (p : Percent) → sent_of (note_of all mode i None p) ≡ []
+no_note all mode i p = note_sent all mode i None p ∙ no_packet mode all i p
 
 unboxed : (box : Outbox) (n : Note) → sent_of n ≡ [] → boxed box n ≡ box
 unfolding boxed front
 unboxed box n none = rw none
 
-pub passed_over : (i : ℕ) (g : Gesture) (b : AfterAll) (all : List ℕ) → completes_nothing g ≡ true → TakesTurn i g b all b all
+pub passed_over : (i : ℕ) (g : Option Gesture) (b : AfterAll) (all : List ℕ) → is_none g ≡ true → TakesTurn i g b all b all
 unfolding changed became
 passed_over i g b all none =
     let none_sent = no_note all b.core.mode i (percent_of b.core.dimmer.level) in
@@ -159,15 +156,15 @@ passed_over i g b all none =
     }
 
 pub takes_turn :
-    (i : ℕ) (g : Gesture) (b : AfterAll) (all all' : List ℕ) (a : After) (box : Outbox)
+    (i : ℕ) (g : Option Gesture) (b : AfterAll) (all all' : List ℕ) (a : After) (box : Outbox)
     → Turned i g b.core b.password all a all' → box ≡ boxed b.outbox a.note
     → TakesTurn i g b all (record { core = a.core; password = a.password; outbox = box }) all'
 takes_turn i g b all all' a box t more = record { stands = rw (← t.noted) t.stands; noted = rw (← t.noted) more }
 
 -- One turn more.
 turns_snoc :
-    (k i j : ℕ) (gs : List Gesture) (m : Moment) → i < length gs → j ≡ k + i
-    → turns_by k (take (suc i) gs) m ≡ turned j (get_or gs i Nothing) (turns_by k (take i gs) m)
+    (k i j : ℕ) (gs : List (Option Gesture)) (m : Moment) → i < length gs → j ≡ k + i
+    → turns_by k (take (suc i) gs) m ≡ turned j (get_or gs i None) (turns_by k (take i gs) m)
 unfolding turns_by
 turns_snoc k i j [] m low e = absurd (omega arith)
 turns_snoc k zero j (g ∷ gs) m low e = ap (λ (n : ℕ). turned n g m) (omega arith)
@@ -185,12 +182,12 @@ unfolding turns_by changed became
 turning_begins c all w box e = record { core = refl; registers = refl; holds = holds_none box e; password = refl }
 
 pub turning_again :
-    (gs : List Gesture) (m : Moment) (began : Password) (i : ℕ) (now : AfterAll) (all : List ℕ) (next : AfterAll) (all' : List ℕ)
+    (gs : List (Option Gesture)) (m : Moment) (began : Password) (i : ℕ) (now : AfterAll) (all : List ℕ) (next : AfterAll) (all' : List ℕ)
     → Turning (turns_by 0 (take i gs) m) began i now all → i < length gs → i < paddle_count
-    → TakesTurn i (get_or gs i Nothing) now all next all'
+    → TakesTurn i (get_or gs i None) now all next all'
     → Turning (turns_by 0 (take (i + 1) gs) m) began (i + 1) next all'
 turning_again gs m began i now all next all' t inside room takes =
-    let g = get_or gs i Nothing in
+    let g = get_or gs i None in
     let before = turns_by 0 (take i gs) m in
     let one = turned i g (anew before) in
     let n = note_of all' now.core.mode i g (percent_of next.core.dimmer.level) in

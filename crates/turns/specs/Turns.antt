@@ -1,5 +1,5 @@
 -- What the paddles' gestures do within one event, one after the other, and what they send.
-use Rattle.std.specs.Prelude.{List, [], ◌∷◌, ◌++◌, ℕ, ◌+◌}
+use Rattle.std.specs.Prelude.{List, [], ◌∷◌, ◌++◌, ℕ, ◌+◌, Option}
 use Rattle.units.specs.Units.{percent_of}
 use Rattle.vault.specs.Job.{Change, change, followed}
 use Rattle.paddle.specs.Paddle.{gesture}
@@ -26,7 +26,7 @@ unfoldable pub after : Effect → Moment → Moment
 after e m = moment (applied e.write [] m.registers) e.core m.sent (followed m.change (change_of e.write []))
 
 -- 01, Paddles, 12: a gesture acts, then sends: in the mode that it finds, with registers and percent as the act leaves them.
-unfoldable pub turned : ℕ → Gesture → Moment → Moment
+unfoldable pub turned : ℕ → Option Gesture → Moment → Moment
 turned i g m =
     let now = after (acted m.registers i g m.core) m in
     moment now.registers now.core (m.sent ++ announced now.registers m.core.mode i g (percent_of now.core.dimmer.level)) now.change

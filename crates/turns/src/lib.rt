@@ -35,7 +35,7 @@ pub struct AfterAll {
 pub fn turns(
     core: Core,
     password: Password,
-    gestures: [Gesture; PADDLES],
+    gestures: [Option<Gesture>; PADDLES],
     all: &mut [u8; 256],
 ) -> AfterAll
     ensures { Stands (turns_by 0 gestures (moment all.old core [] nothing)) password result.core all.new (packets_in result.outbox) result.password }
@@ -53,10 +53,15 @@ pub fn turns(
 
 // One gesture more; where there is none, all stays.
 #[tactic(auto, using(crate::proofs::Laws::takes_turn))]
-fn next_turn(before: AfterAll, paddle: u8, gesture: Gesture, all: &mut [u8; 256]) -> AfterAll
+fn next_turn(
+    before: AfterAll,
+    paddle: u8,
+    gesture: Option<Gesture>,
+    all: &mut [u8; 256],
+) -> AfterAll
     ensures { TakesTurn paddle gesture before all.old result all.new }
 {
-    if gesture.none() {
+    if gesture.is_none() {
         return before;
     }
     let outbox = before.outbox;
@@ -75,7 +80,7 @@ fn turned(
     core: Core,
     password: Password,
     paddle: u8,
-    gesture: Gesture,
+    gesture: Option<Gesture>,
     all: &mut [u8; 256],
 ) -> After
     ensures { Turned paddle gesture core password all.old result all.new }
