@@ -2,7 +2,7 @@
 #![tactic(auto)]
 
 ghost use Rattle.std.specs.Prelude.{◌≡◌};
-ghost use Rattle.answers.specs.Answers.{number_of_refusal};
+ghost use Rattle.answers.specs.Code.{number_of_refusal};
 
 use lamp::Colour;
 use outbox::Sent;

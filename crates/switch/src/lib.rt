@@ -5,7 +5,7 @@
 #![tactic(auto)]
 
 ghost use Rattle.std.specs.Prelude.{◌≡◌, []};
-ghost use Rattle.answers.specs.Answers.{number_of_refusal};
+ghost use Rattle.answers.specs.Code.{number_of_refusal};
 ghost use Rattle.outbox.specs.Outbox.{tally};
 ghost use Rattle.state.specs.State.{core_of};
 ghost use Rattle.switch.specs.Switch.{answer_with};

@@ -1,4 +1,4 @@
--- The numbers that an event or a start is refused by before anything else of it is looked at.
+-- What the code and the proofs are cut by: no promise under the roof needs a definition of this file.
 use Rattle.std.specs.Prelude.{ℕ}
 use Rattle.answers.specs.declared.Refusal.{Refusal}
 use Rattle.answers.specs.declared.Refusal.TheVariants.{Image, Room, Contact}
