@@ -1,5 +1,6 @@
 // What programs in C and Rust link: of each function of crate host an export of the same name, with the same parameters and the
-// same promises. A slice crosses as a pointer and a length, an array as a pointer.
+// same promises. A slice crosses as a pointer and a length, an array as a pointer. Stays as it is: twins of host's, since C is handed
+// these names.
 #![tactic(auto)]
 
 ghost use Rattle.std.specs.Prelude.{◌≡◌, List, ℕ};

@@ -9,7 +9,7 @@ use levels::Options;
 use packet::Header;
 use reach::{Target, heard, permitted, target_of};
 use vault::{Mode, Password};
-use verbs::{Verb, argument, optional, verb_of};
+use verbs::{Verb, argument, optional};
 
 // What a packet is refused for: its network, its destination, its command, its arguments, what else the command asks, or a wrong password,
 // which is not found here.
@@ -82,7 +82,7 @@ pub fn judge(all: &[u8; 256], mode: Mode, header: Header, message: &[u8]) -> Res
     if !target.reached() {
         return Err(Denied::Destination);
     }
-    let verb = verb_of(argument(message, 0));
+    let verb = Verb::from(argument(message, 0));
     commanded(all, mode, header.source, target, verb, message)
 }
 

@@ -1,6 +1,8 @@
 // The paddles of a switch in their lent bytes, kind by kind, so that what most ticks do to all of them is a plain loop: of each
 // paddle in order its contacts, then of each its taps, then hold, then gap. Of contacts bit 0 says that the local one is down and
 // bit 1 that the slave one is; the bits above them say nothing.
+// Stays as it is: a paddle goes by a plain index and a `requires`. A type for it would be made anew in every loop and taken apart at each
+// byte.
 #![tactic(auto)]
 
 ghost use Rattle.std.specs.Prelude.{◌≡◌, ◌<◌};

@@ -5,7 +5,7 @@
 // numbers    0 level, 1 kind of motion, 2 mode, 3 hue of the lamp's signal, 4 last level, 5 target of a fade, 6 and 7 the password.
 //
 // Motion 0: idle, 1: fading, 2: blinking. Mode 0: Normal, 1: Setup, 2: Factory. Colour 0: black, 1: red, 2: green, 3: orange.
-// A number that stands for nothing is read as the first of its list.
+// A number that stands for nothing is read as the first of its list. Stays as it is: these numbers are what the C interface lends.
 #![tactic(auto)]
 
 pub mod kinds;

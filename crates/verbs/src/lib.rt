@@ -26,24 +26,26 @@ pub enum Verb {
 // The most registers that one Get or Set may name.
 const MOST: usize = 16;
 
-#[tactic(auto, unfolding(crate::specs::Verbs::verb_of))]
-pub fn verb_of(number: u8) -> Verb
-    ensures { result ≡ verb_of number }
-{
-    match number {
-        0x03 => Verb::Open,
-        0x04 => Verb::Close,
-        0x10 => Verb::Get,
-        0x11 => Verb::Set,
-        0x20 => Verb::Activate,
-        0x21 => Verb::Deactivate,
-        0x22 => Verb::Goto,
-        0x23 => Verb::FadeStart,
-        0x24 => Verb::FadeStop,
-        0x25 => Verb::Blink,
-        0x30 => Verb::Report,
-        0x31 => Verb::Store,
-        _ => Verb::Unlisted,
+impl From<u8> for Verb {
+    ghost from_gives = { λ number verb. verb ≡ verb_of number };
+
+    #[tactic(auto, unfolding(crate::specs::Verbs::verb_of))]
+    fn from(number: u8) -> Verb {
+        match number {
+            0x03 => Verb::Open,
+            0x04 => Verb::Close,
+            0x10 => Verb::Get,
+            0x11 => Verb::Set,
+            0x20 => Verb::Activate,
+            0x21 => Verb::Deactivate,
+            0x22 => Verb::Goto,
+            0x23 => Verb::FadeStart,
+            0x24 => Verb::FadeStop,
+            0x25 => Verb::Blink,
+            0x30 => Verb::Report,
+            0x31 => Verb::Store,
+            _ => Verb::Unlisted,
+        }
     }
 }
 

@@ -10,6 +10,7 @@ use units::Percent;
 use vault::Password;
 
 // What an event writes. The bytes of `Values` are lent beside it.
+// Stays as it is: no Option of a write, since `unwritten` alone says Nothing, and every other act would wrap what it writes.
 #[derive(Clone, Copy)]
 pub enum Write {
     Nothing,
