@@ -14,6 +14,7 @@ pub struct Options {
 }
 
 // The ticks of one step by rate; at rate 0 the level is there at once.
+// Stays as it is: 01 names the form, a const table of sixteen counts.
 const TICKS: [u16; 16] = [
     0, 1, 2, 4, 6, 8, 12, 24, 36, 72, 144, 360, 720, 1080, 2160, 4320,
 ];

@@ -37,7 +37,8 @@ impl From<Mode> for u8 {
 pub struct Password(pub u8, pub u8);
 
 impl Password {
-    // Both bytes are compared, whatever the first one says. Stays as it is: a derived `==` may stop at the first byte.
+    // Both bytes are compared, whatever the first one says.
+    // Stays as it is: a derived `==` may stop at the first byte.
     pub fn matches(self, guess: Password) -> bool
         ensures { result ≡ matches self guess }
     {
