@@ -130,10 +130,10 @@ dimmer_signalled c n d c₁ n₁ c₂ n₂ kept lamp =
     }
 
 -- Its packet is the one that is announced.
-one_note : (box box' : Outbox) (n : Note) → box ≡ no_notes → box' ≡ boxed box n → packets_in box' ≡ sent_of n
+one_note : (box box' : Outbox) (n : Option Note) → box ≡ no_notes → box' ≡ boxed box n → packets_in box' ≡ sent_of n
 one_note box box' n none more = (holds_more 0 [] box box' n (holds_none box none) (omega arith) more).inside
 
-module _ (i : ℕ) (c n all out : List ℕ) (mode : Mode) (d₀ d : Dimmer) (c₁ n₁ : List ℕ) (p : Percent) (note : Note) (box box' : Outbox) (sent : Sent) (out' : List ℕ)
+module _ (i : ℕ) (c n all out : List ℕ) (mode : Mode) (d₀ d : Dimmer) (c₁ n₁ : List ℕ) (p : Percent) (note : Option Note) (box box' : Outbox) (sent : Sent) (out' : List ℕ)
     (moded : mode ≡ mode_in n) (read : d₀ ≡ dimmer_of c n) (ends : d ≡ let_go i mode d₀) (kept : DimmerKept d c n c₁ n₁)
     (percent : p ≡ percent_of d.level) (noted : note ≡ note_of all mode i (Some Release) p) (empty : box ≡ no_notes) (more : box' ≡ boxed box note)
     (lays : Sends (packets_in box') out sent out') where

@@ -1,5 +1,6 @@
 -- What is promised of a paddle's packets, shown; and that no packet shows the password's places.
 use Rattle.std.specs.Prelude.{Option, Some, None, if◌then◌else◌}
+use Rattle.std.specs.Option.{option_and_then, option_map}
 use mathlib.Core.Bool.{Bool, true, false}
 use mathlib.Core.List.{List, []}
 use mathlib.Core.Path.{◌≡◌, refl, sym, ap, ◌∙◌}
@@ -11,9 +12,10 @@ use Rattle.words.proofs.Laws.{both}
 use Rattle.units.specs.declared.Percent.{Percent}
 use Rattle.places.specs.Places.{network_in, unit_in, transmit_in, entry_place, entry_in}
 use Rattle.registers.specs.Registers.{valid, apart}
+use Rattle.post.specs.declared.Message.{Message}
 use Rattle.post.specs.Post.{headed, enveloped, bytes_of, values_from, reply_message, replied}
-use Rattle.herald.specs.Herald.{gesture_message, announced, gesture_number, command_number, numbered, takes_level, trimmed, chosen}
-use Rattle.post.specs.Code.{note, no_note, note_header, sent_of}
+use Rattle.herald.specs.Herald.{gesture_message, announced, gesture_number, command_number, takes_level, trimmed, chosen}
+use Rattle.post.specs.Code.{note, sent_of}
 use Rattle.herald.specs.Code.{note_of, NoteSent}
 use Rattle.vault.specs.declared.Mode.{Mode}
 use Rattle.vault.specs.declared.Mode.TheVariants.{Normal, Setup, Factory}
@@ -30,13 +32,14 @@ use Rattle.post.proofs.Sending.{each_so, carried, enveloped_one, replied_apart}
 -- The packets of a gesture's note are those that the gesture announces.
 pub note_sent : NoteSent
 unfolding note_of announced sent_of enveloped bytes_of
-note_sent all mode paddle g p = go (valid (transmit_in all paddle).link)
+note_sent all mode paddle g p = go (valid (transmit_in all paddle).link) (gesture_message all mode paddle g p)
   where
-    go : (b : Bool)
-        → sent_of (if b then note (network_in all) (unit_in all) (transmit_in all paddle).link (gesture_message all mode paddle g p) else no_note)
-        ≡ (if b then enveloped (headed all true (transmit_in all paddle).link) (bytes_of (gesture_message all mode paddle g p)) else [])
-    go true = refl
-    go false = refl
+    go : (b : Bool) (m : Option Message)
+        → sent_of (if b then option_map (note (network_in all) (unit_in all) (transmit_in all paddle).link) m else None)
+        ≡ (if b then enveloped (headed all true (transmit_in all paddle).link) (bytes_of m) else [])
+    go true None = refl
+    go true (Some m) = refl
+    go false m = refl
 
 pub announced_reads : AnnouncedReads
 unfolding announced
@@ -79,10 +82,9 @@ no_gesture all Setup paddle = refl
 no_gesture all Factory paddle = refl
 
 pub announced_one : (all : List ℕ) (mode : Mode) (paddle : ℕ) (g : Option Gesture) (p : Percent) → length (announced all mode paddle g p) ≤ 1
-unfolding sent_of
+unfolding announced
 announced_one all mode paddle g p =
-    let n = note_of all mode paddle g p in
-    rw (← note_sent all mode paddle g p) (enveloped_one (note_header n) (bytes_of n.message))
+    both (λ (l : List (List ℕ)). length l ≤ 1) (valid (transmit_in all paddle).link) (enveloped_one _ (bytes_of (gesture_message all mode paddle g p))) (omega arith)
 
 pub announces : (all : List ℕ) (paddle : ℕ) (p : Percent) → Announces all paddle p
 unfolding command_number gesture_number valid
@@ -132,16 +134,17 @@ entry_apart all n =
     }
 
 -- Nor does what a paddle sends depend on what the array holds at 0x02 and 0x03.
-numbered_apart : (all : List ℕ) (number : Option ℕ) (p : Percent) → numbered (apart all) number p ≡ numbered all number p
+message_apart : (all : List ℕ) (number : Option ℕ) (p : Percent)
+    → option_and_then (λ n. chosen (apart all) n p) number ≡ option_and_then (λ n. chosen all n p) number
 unfolding chosen
-numbered_apart all None p = refl
-numbered_apart all (Some number) p = rw (entry_apart all (number % 16))
+message_apart all None p = refl
+message_apart all (Some number) p = rw (entry_apart all (number % 16))
 
 pub announced_apart : (all : List ℕ) (mode : Mode) (paddle : ℕ) (g : Option Gesture) (p : Percent)
     → announced (apart all) mode paddle g p ≡ announced all mode paddle g p
 unfolding announced gesture_message
 announced_apart all mode paddle g p =
-    rw (transmit_apart all paddle, apart_other all 0 refl, apart_other all 1 refl, numbered_apart all (command_number mode (transmit_in all paddle) g) p)
+    rw (transmit_apart all paddle, apart_other all 0 refl, apart_other all 1 refl, message_apart all (command_number mode (transmit_in all paddle) g) p)
 
 pub hides : Hides
 unfolding reply_message values_from

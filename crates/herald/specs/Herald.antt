@@ -1,5 +1,6 @@
 -- What a paddle's gesture sends: its link packet (01, Paddles, 12 to 15).
 use Rattle.std.specs.Prelude.{Bool, true, not, ◌||◌, List, [], ℕ, ◌%◌, eqb, if◌then◌else◌, Option, Some, None}
+use Rattle.std.specs.Option.{option_and_then}
 use Rattle.units.specs.declared.Percent.{Percent}
 use Rattle.vault.specs.declared.Mode.{Mode}
 use Rattle.vault.specs.declared.Mode.TheVariants.{Normal, Setup, Factory}
@@ -10,7 +11,7 @@ use Rattle.registers.specs.Registers.{valid}
 use Rattle.places.specs.declared.Transmit.{Transmit}
 use Rattle.places.specs.declared.Entry.{Entry}
 use Rattle.post.specs.declared.Message.{Message}
-use Rattle.post.specs.declared.Message.TheVariants.{Empty, One, Two, Three}
+use Rattle.post.specs.declared.Message.TheVariants.{One, Two, Three}
 use Rattle.post.specs.Post.{headed, enveloped, bytes_of, status}
 
 -- 01, Paddles, 13: the number that sends nothing.
@@ -39,29 +40,24 @@ unfoldable pub takes_level : ℕ → Bool
 takes_level command = eqb command 0x22 || eqb command 0x23
 
 -- 01, Paddles, 14 and 15: an entry is silent if it begins with 255; else the 255s at its end are dropped, but a level.
-unfoldable pub trimmed : Entry → Message
+unfoldable pub trimmed : Entry → Option Message
 trimmed e =
-    if eqb e.command 255 then Empty
-    else if not (eqb e.second 255) then Three e.command e.first e.second
-    else if not (eqb e.first 255) then Two e.command e.first
-    else if takes_level e.command then Two e.command e.first
-    else One e.command
+    if eqb e.command 255 then None
+    else if not (eqb e.second 255) then Some (Three e.command e.first e.second)
+    else if not (eqb e.first 255) then Some (Two e.command e.first)
+    else if takes_level e.command then Some (Two e.command e.first)
+    else Some (One e.command)
 
 -- 01, Paddles, 13: what the low four bits of a command number stand for.
-unfoldable pub chosen : List ℕ → ℕ → Percent → Message
+unfoldable pub chosen : List ℕ → ℕ → Percent → Option Message
 chosen all number percent =
-    if eqb (number % 16) no_command then Empty
-    else if eqb (number % 16) report then status percent
+    if eqb (number % 16) no_command then None
+    else if eqb (number % 16) report then Some (status percent)
     else trimmed (entry_in all (number % 16))
 
--- The message of a command number, if there is one.
-abbrev pub numbered : List ℕ → Option ℕ → Percent → Message
-numbered all None percent = Empty
-numbered all (Some number) percent = chosen all number percent
-
 -- The message of a paddle's gesture, in the mode that it finds.
-unfoldable pub gesture_message : List ℕ → Mode → ℕ → Option Gesture → Percent → Message
-gesture_message all mode paddle g percent = numbered all (command_number mode (transmit_in all paddle) g) percent
+unfoldable pub gesture_message : List ℕ → Mode → ℕ → Option Gesture → Percent → Option Message
+gesture_message all mode paddle g percent = option_and_then (λ number. chosen all number percent) (command_number mode (transmit_in all paddle) g)
 
 -- 01, Paddles, 12: a link packet, if the component has a valid link. The mode is the one before the gesture acts, the percent the one after.
 unfoldable pub announced : List ℕ → Mode → ℕ → Option Gesture → Percent → List (List ℕ)

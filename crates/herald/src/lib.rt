@@ -32,23 +32,21 @@ pub fn announce(
     paddle: u8,
     gesture: Option<Gesture>,
     percent: Percent,
-) -> Note
+) -> Option<Note>
     ensures { result ≡ note_of all.now mode paddle gesture percent }
 {
     let transmit = places::transmit_of(all, paddle);
     if !registers::valid(transmit.link) {
-        return Note::none();
+        return None;
     }
-    let message = match number(mode, transmit, gesture) {
-        Some(number) => chosen(all, number, percent),
-        None => Message::Empty,
-    };
-    Note {
+    let number = number(mode, transmit, gesture)?;
+    let message = chosen(all, number, percent)?;
+    Some(Note {
         network: places::network(all),
         source: places::unit(all),
         destination: transmit.link,
         message,
-    }
+    })
 }
 
 // The command number of a gesture in a mode, if it sends: none in Setup, and no double in Factory Default.
@@ -66,28 +64,28 @@ fn number(mode: Mode, transmit: Transmit, gesture: Option<Gesture>) -> Option<u8
     }
 }
 
-// By the low four bits of the command number.
+// The message of a command number, by its low four bits.
 #[tactic(auto, unfolding(crate::specs::Herald::chosen))]
-fn chosen(all: &[u8; 256], number: u8, percent: Percent) -> Message
+fn chosen(all: &[u8; 256], number: u8, percent: Percent) -> Option<Message>
     ensures { result ≡ chosen all.now number percent }
 {
     match number % 16 {
-        NONE => Message::Empty,
-        REPORT => Message::Two(STATUS, percent.0),
+        NONE => None,
+        REPORT => Some(Message::Two(STATUS, percent.0)),
         low => trimmed(places::entry_at(all, low)),
     }
 }
 
-// An entry of the command table without its absent arguments.
+// An entry of the command table without its absent arguments; one without a command is none.
 #[tactic(auto, unfolding(crate::specs::Herald::trimmed))]
-fn trimmed(entry: Entry) -> Message
+fn trimmed(entry: Entry) -> Option<Message>
     ensures { result ≡ trimmed entry }
 {
     match (entry.command, entry.first, entry.second) {
-        (ABSENT, _, _) => Message::Empty,
-        (command, ABSENT, ABSENT) if !takes_level(command) => Message::One(command),
-        (command, first, ABSENT) => Message::Two(command, first),
-        (command, first, second) => Message::Three(command, first, second),
+        (ABSENT, _, _) => None,
+        (command, ABSENT, ABSENT) if !takes_level(command) => Some(Message::One(command)),
+        (command, first, ABSENT) => Some(Message::Two(command, first)),
+        (command, first, second) => Some(Message::Three(command, first, second)),
     }
 }
 

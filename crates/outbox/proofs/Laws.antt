@@ -7,7 +7,7 @@ use native.Mathlib.Omega.{arith}
 use borrow.Author.Tests.{ne_eqb}
 use lib.ListN.{length, take, drop, length-append, length-drop, length-take, take-append-drop, drop_of_length-le}
 use lib.Seq.{drop-append-le, take_all, take-append-add, drop-append-add}
-use Rattle.std.specs.Prelude.{Option}
+use Rattle.std.specs.Prelude.{Option, Some, None}
 use Rattle.words.proofs.Laws.{two_ways}
 use Rattle.units.specs.declared.Percent.{Percent}
 use Rattle.packet.specs.Layout.{packed}
@@ -98,10 +98,11 @@ unfolding enveloped front
 message_next h [] packets before = rw (append-nil packets) (none_placed (place * length packets) (placed packets before))
 message_next h (b ∷ bs) packets before = in_order packets (packed h (b ∷ bs)) before
 
-pub note_next : (n : Note) (packets : List (List ℕ)) (before : List ℕ)
+pub note_next : (n : Option Note) (packets : List (List ℕ)) (before : List ℕ)
     → placed_at (place * length packets) (front (sent_of n)) (placed packets before) ≡ placed (packets ++ sent_of n) before
-unfolding sent_of
-note_next n = message_next (note_header n) (bytes_of n.message)
+unfolding sent_of front
+note_next None packets before = rw (append-nil packets) (none_placed (place * length packets) (placed packets before))
+note_next (Some n) packets before = message_next (note_header n) (bytes_of (Some n.message)) packets before
 
 pub reply_placed : (all : List ℕ) (seen : Option Password) (to : ℕ) (reply : Reply) (p : Percent) (before : List ℕ)
     → placed_at 0 (front (replied all seen to reply p)) before ≡ placed (replied all seen to reply p) before
@@ -114,6 +115,7 @@ unfolding enveloped front counted
 message_count h [] = refl
 message_count h (b ∷ bs) = rw (ne_eqb (length (packed h (b ∷ bs))) 0 (omega (arith, packed_length h (b ∷ bs))))
 
-pub note_count : (n : Note) → length (sent_of n) ≡ counted (length (front (sent_of n)))
-unfolding sent_of
-note_count n = message_count (note_header n) (bytes_of n.message)
+pub note_count : (n : Option Note) → length (sent_of n) ≡ counted (length (front (sent_of n)))
+unfolding sent_of front counted
+note_count None = refl
+note_count (Some n) = message_count (note_header n) (bytes_of (Some n.message))

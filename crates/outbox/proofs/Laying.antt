@@ -1,16 +1,18 @@
 -- The outbox: notes put in one after the other, their packets laid one after the other and counted.
 use mathlib.Core.Bool.{false}
-use mathlib.Core.List.{List, [], ◌∷◌, ◌++◌, append_assoc, append-nil}
+use mathlib.Core.List.{List, [], ◌∷◌, ◌++◌, map, append_assoc, append-nil}
 use mathlib.Core.Path.{◌≡◌, refl, sym, ap, ◌∙◌}
 use Prim.Native.Nat.{ℕ, zero, suc, ◌+◌, ◌-◌, ◌*◌, ◌≤◌, ◌<◌, min}
 use native.Mathlib.Numerals.{add-one}
 use native.Mathlib.Omega.{arith}
-use borrow.Author.Tests.{lt-ltb}
-use lib.Dec.{ltb, eqb}
-use lib.ListN.{length, get_or, take, drop, set, length-append, length-set, length-drop, length-take, drop_of_length-le}
-use lib.Seq.{take-suc, take-suc-set, take_all}
-use Rattle.std.specs.Prelude.{Option}
-use Rattle.words.proofs.Laws.{both, cases, one_outcome, two_ways}
+use lib.Dec.{eqb}
+use lib.ListN.{length, get_or, take, drop, set, replicate, length-append, length-drop, drop_of_length-le}
+use lib.Seq.{take-suc, take_all}
+use Rattle.std.specs.Prelude.{Option, Some, None}
+use Rattle.std.specs.Option.{is_none}
+use Rattle.std.specs.List.{position_or_len}
+use Rattle.std.proofs.lemmas.List.{map-append}
+use Rattle.words.proofs.Laws.{both, one_outcome}
 use Rattle.units.specs.declared.Percent.{Percent}
 use Rattle.model.specs.Model.{paddle_count, place}
 use Rattle.packet.specs.declared.Header.{Header}
@@ -21,8 +23,8 @@ use Rattle.outbox.specs.declared.Sent.{Sent}
 use Rattle.outbox.specs.declared.Outbox.{Outbox}
 use Rattle.post.specs.Post.{enveloped, headed, reply_message, replied, placed_one}
 use Rattle.outbox.specs.Outbox.{placed, lengths_in, tally}
-use Rattle.post.specs.Code.{no_note, sent_of, front, Laid}
-use Rattle.outbox.specs.Code.{placed_at, counted, lone, noted, packets_in, no_notes, boxed, Sends}
+use Rattle.post.specs.Code.{sent_of, front, Laid}
+use Rattle.outbox.specs.Code.{placed_at, counted, lone, noted, packets_in, no_notes, put, boxed, Sends}
 use Rattle.outbox.proofs.Laws.{place_front, clamped, note_next, note_count, message_count, whole_buffer, reply_placed}
 use Rattle.post.proofs.Laws.{note_fits, laid_fits, reply_fits}
 
@@ -31,7 +33,7 @@ pub counted_few : (size : ℕ) → counted size ≤ 1
 unfolding counted
 counted_few size = both (λ n. n ≤ 1) (eqb size 0) (omega arith) (omega arith)
 
-pub note_few : (n : Note) → length (sent_of n) ≤ 1
+pub note_few : (n : Option Note) → length (sent_of n) ≤ 1
 note_few n = rw (note_count n) (counted_few (length (front (sent_of n))))
 
 -- Where nothing is counted nothing was sent, and the reverse.
@@ -77,67 +79,98 @@ reply_sends all seen to reply p before after n r room laid e =
     }
 
 -- The packets of notes, one note more.
-pub noted_append : (ns ms : List Note) → noted (ns ++ ms) ≡ noted ns ++ noted ms
+noted_append : (ns ms : List (Option Note)) → noted (ns ++ ms) ≡ noted ns ++ noted ms
 unfolding noted
 noted_append [] ms = refl
 noted_append (n ∷ ns) ms = rw (noted_append ns ms) (sym (append_assoc (sent_of n) (noted ns) (noted ms)))
 
-pub noted_more : (ns : List Note) (n : Note) → noted (ns ++ (n ∷ [])) ≡ noted ns ++ sent_of n
+pub noted_more : (ns : List (Option Note)) (n : Option Note) → noted (ns ++ (n ∷ [])) ≡ noted ns ++ sent_of n
 unfolding noted
 noted_more ns n = rw (noted_append ns (n ∷ []), append-nil (sent_of n))
 
--- A new box is empty.
-pub packets_none : packets_in no_notes ≡ []
-unfolding packets_in noted
-packets_none = refl
+-- The first free place, by its number: where there is one the note is put there.
+pub put_free : (n : Option Note) (ns : List (Option Note)) → position_or_len is_none ns < length ns → put n ns ≡ set ns (position_or_len is_none ns) n
+unfolding put
+put_free n [] h = absurd (omega arith)
+put_free n (None ∷ ns) h = refl
+put_free n (Some m ∷ ns) h =
+    let next : 1 + position_or_len is_none ns ≡ suc (position_or_len is_none ns) = omega arith in
+    rw next (ap (λ (l : List (Option Note)). Some m ∷ l) (put_free n ns (omega arith)))
 
--- A note put into a box that is not full adds its packets behind those before it.
-pub packets_more : (box : Outbox) (n : Note) → length box.notes ≡ paddle_count → box.count < paddle_count
-    → packets_in (boxed box n) ≡ packets_in box ++ sent_of n
-unfolding boxed packets_in counted
-packets_more box n whole room =
-    cases (λ (b : Outbox). packets_in b ≡ packets_in box ++ sent_of n) (eqb (length (front (sent_of n))) 0)
-    (λ e.
-    let none : sent_of n ≡ [] = nothing_sent (sent_of n) (note_count n ∙ rw e) in
-    rw (none, append-nil (packets_in box)))
-    (λ e.
-    rw (lt-ltb box.count paddle_count room, add-one box.count, take-suc-set box.notes box.count n (omega arith)) (noted_more (take box.count box.notes) n))
-  where
-    nothing_sent : (sent : List (List ℕ)) → length sent ≡ 0 → sent ≡ []
-    nothing_sent [] e = refl
-    nothing_sent (p ∷ rest) e = absurd (omega arith)
+pub put_full : (n : Option Note) (ns : List (Option Note)) → length ns ≤ position_or_len is_none ns → put n ns ≡ ns
+unfolding put
+put_full n [] h = refl
+put_full n (None ∷ ns) h = absurd (omega arith)
+put_full n (Some m ∷ ns) h = ap (λ (l : List (Option Note)). Some m ∷ l) (put_full n ns (omega arith))
 
--- It counts one note more at most, and its notes stay as many.
-pub more_count : (box : Outbox) (n : Note) → (boxed box n).count ≤ suc box.count
-unfolding boxed
-more_count box n =
-    both (λ (b : Outbox). b.count ≤ suc box.count) (eqb (length (front (sent_of n))) 0) (omega arith)
-    (both (λ (b : Outbox). b.count ≤ suc box.count) (ltb box.count paddle_count) (omega arith) (omega arith))
+-- No note leaves the places as they are.
+pub put_none : (ns : List (Option Note)) → put None ns ≡ ns
+unfolding put
+put_none [] = refl
+put_none (None ∷ ns) = refl
+put_none (Some m ∷ ns) = ap (λ (l : List (Option Note)). Some m ∷ l) (put_none ns)
 
-pub more_length : (box : Outbox) (n : Note) → length (boxed box n).notes ≡ length box.notes
-unfolding boxed
-more_length box n =
-    both (λ (b : Outbox). length b.notes ≡ length box.notes) (eqb (length (front (sent_of n))) 0) refl
-    (both (λ (b : Outbox). length b.notes ≡ length box.notes) (ltb box.count paddle_count) (length-set box.notes box.count n) refl)
+-- Taken places, and free ones behind them.
+abbrev line_of : List Note → ℕ → List (Option Note)
+line_of taken free = map Some taken ++ replicate free None
+
+noted_free : (free : ℕ) → noted (replicate free None) ≡ []
+unfolding noted sent_of
+noted_free zero = refl
+noted_free (suc free) = noted_free free
+
+put_more : (n : Note) (taken : List Note) (free : ℕ) → put (Some n) (line_of taken (suc free)) ≡ line_of (taken ++ (n ∷ [])) free
+unfolding put
+put_more n [] free = refl
+put_more n (m ∷ taken) free = ap (λ (l : List (Option Note)). Some m ∷ l) (put_more n taken free)
+
+noted_line : (taken : List Note) (free : ℕ) → noted (line_of taken free) ≡ noted (map Some taken)
+noted_line taken free = rw (noted_append (map Some taken) (replicate free None), noted_free free, append-nil (noted (map Some taken)))
 
 -- For a loop over the paddles: a box with these packets, that has taken one note at most from each of the first i of them.
 pub record Holds (i : ℕ) (packets : List (List ℕ)) (box : Outbox) : Type 0 where
-  pub whole : length box.notes ≡ paddle_count
-  pub few : box.count ≤ i
+  pub taken : List Note
+  pub free : ℕ
+  pub places : box.notes ≡ line_of taken free
+  pub whole : length taken + free ≡ paddle_count
+  pub few : length taken ≤ i
   pub inside : packets_in box ≡ packets
 
 pub holds_none : (box : Outbox) → box ≡ no_notes → Holds 0 [] box
-holds_none box e = rw e record { whole = refl; few = omega arith; inside = packets_none }
+unfolding packets_in
+holds_none box e = rw e record { taken = []; free = paddle_count; places = refl; whole = refl; few = omega arith; inside = noted_free paddle_count }
 
-pub holds_more : (i : ℕ) (packets : List (List ℕ)) (box box' : Outbox) (n : Note) → Holds i packets box → i < paddle_count → box' ≡ boxed box n
+pub holds_more : (i : ℕ) (packets : List (List ℕ)) (box box' : Outbox) (n : Option Note) → Holds i packets box → i < paddle_count → box' ≡ boxed box n
     → Holds (i + 1) (packets ++ sent_of n) box'
-holds_more i packets box box' n h room e =
-    rw e
+unfolding boxed packets_in sent_of
+holds_more i packets box box' None h room e =
+    rw (e, append-nil packets)
     record {
-      whole = more_length box n ∙ h.whole;
-      few = omega (arith, more_count box n, h.few);
-      inside = packets_more box n h.whole (omega (arith, h.few)) ∙ rw h.inside;
+      taken = h.taken;
+      free = h.free;
+      places = put_none box.notes ∙ h.places;
+      whole = h.whole;
+      few = omega (arith, h.few);
+      inside = ap noted (put_none box.notes) ∙ h.inside;
     }
+holds_more i packets box box' (Some n) h room e = go h.free refl
+  where
+    go : (free : ℕ) → h.free ≡ free → Holds (i + 1) (packets ++ sent_of (Some n)) box'
+    go zero none = absurd (omega (arith, h.whole, h.few))
+    go (suc free) some =
+        let line : box.notes ≡ line_of h.taken (suc free) = h.places ∙ rw some in
+        let next : box'.notes ≡ line_of (h.taken ++ (n ∷ [])) free = rw e (ap (put (Some n)) line ∙ put_more n h.taken free) in
+        record {
+          taken = h.taken ++ (n ∷ []);
+          free = free;
+          places = next;
+          whole = omega (arith, h.whole, length-append h.taken (n ∷ []));
+          few = omega (arith, h.few, length-append h.taken (n ∷ []));
+          inside =
+              ap noted next ∙ noted_line (h.taken ++ (n ∷ [])) free
+              ∙ rw (map-append, noted_more (map Some h.taken) (Some n))
+              (ap (λ (l : List (List ℕ)). l ++ sent_of (Some n)) (sym (noted_line h.taken (suc free)) ∙ ap noted (sym line) ∙ h.inside));
+        }
 
 -- Where the code stands when it has laid these packets, those of its first i notes.
 pub record Underway (packets : List (List ℕ)) (before : List ℕ) (i count : ℕ) (lengths after : List ℕ) : Type 0 where
@@ -146,12 +179,12 @@ pub record Underway (packets : List (List ℕ)) (before : List ℕ) (i count : �
   pub sizes : lengths ≡ lengths_in paddle_count packets
   pub bytes : after ≡ placed packets before
 
-pub laying_begins : (notes : List Note) (before : List ℕ) → Underway (noted (take 0 notes)) before 0 0 (lengths_in paddle_count []) before
+pub laying_begins : (notes : List (Option Note)) (before : List ℕ) → Underway (noted (take 0 notes)) before 0 0 (lengths_in paddle_count []) before
 unfolding noted placed
 laying_begins notes before = record { reached = refl; few = omega arith; sizes = refl; bytes = refl }
 
 -- A note laid into all that stands from the beginning of its place on, or from the end of a short buffer.
-pub laid_from : (n : Note) (k start answer : ℕ) (before part : List ℕ) → start ≡ min k (length before)
+pub laid_from : (n : Option Note) (k start answer : ℕ) (before part : List ℕ) → start ≡ min k (length before)
     → Laid (sent_of n) (take (length before - start) (drop start before)) answer part
     → take start before ++ (part ++ drop (length before - start) (drop start before)) ≡ placed_at k (front (sent_of n)) before
 unfolding placed_at
@@ -164,20 +197,20 @@ laid_from n k start answer before part begins laid =
     ∙ ap (λ (j : ℕ). placed_at j (front (sent_of n)) before) begins
     ∙ clamped k (front (sent_of n)) before)
 
-module _ (notes : List Note) (before : List ℕ) (i count : ℕ) (lengths after : List ℕ)
+module _ (notes : List (Option Note)) (before : List ℕ) (i count : ℕ) (lengths after : List ℕ)
     (u : Underway (noted (take i notes)) before i count lengths after) where
   -- One note more.
   pub laying_again : (start size answer more : ℕ) (part : List ℕ) → i < length notes
-      → size ≡ length (front (sent_of (get_or notes i no_note)))
+      → size ≡ length (front (sent_of (get_or notes i None)))
       → start ≡ min (count * place) (length after)
-      → Laid (sent_of (get_or notes i no_note)) (take (length after - start) (drop start after)) answer part
+      → Laid (sent_of (get_or notes i None)) (take (length after - start) (drop start after)) answer part
       → more ≡ counted size
       → Underway (noted (take (i + 1) notes)) before (i + 1) (count + more) (set lengths count size)
       (take start after ++ (part ++ drop (length after - start) (drop start after)))
   laying_again start size answer more part inside long begins laid one =
-      let n = get_or notes i no_note in
+      let n = get_or notes i None in
       let packets = noted (take i notes) in
-      let next : noted (take (suc i) notes) ≡ packets ++ sent_of n = rw (take-suc notes i no_note inside) (noted_more (take i notes) n) in
+      let next : noted (take (suc i) notes) ≡ packets ++ sent_of n = rw (take-suc notes i None inside) (noted_more (take i notes) n) in
       let adds : more ≡ length (sent_of n) = one ∙ ap counted long ∙ sym (note_count n) in
       let from : start ≡ min (place * length packets) (length after) = begins ∙ rw u.reached (omega arith) in
       rw (add-one i, next)
@@ -188,19 +221,13 @@ module _ (notes : List Note) (before : List ℕ) (i count : ℕ) (lengths after 
         bytes = laid_from n (place * length packets) start answer after part from laid ∙ rw u.bytes (note_next n packets before);
       }
 
--- After the last one that is counted all are laid.
+-- After the last one all are laid.
 pub laying_ends : (box : Outbox) (before : List ℕ) (i count : ℕ) (lengths after : List ℕ)
-    → length box.notes ≡ paddle_count → Underway (noted (take i (take (min box.count paddle_count) box.notes))) before i count lengths after → min box.count paddle_count ≤ i
+    → length box.notes ≤ i → Underway (noted (take i box.notes)) before i count lengths after
     → Sends (packets_in box) before (record { lengths = lengths; count = count }) after
 unfolding packets_in tally
-laying_ends box before i count lengths after whole u last =
-    let end = min box.count paddle_count in
-    let short : length (take end box.notes) ≤ i = rw (length-take end box.notes) (omega arith) in
-    let same : take i (take end box.notes) ≡ take box.count box.notes =
-    take_all i (take end box.notes) short
-    ∙ two_ways box.count paddle_count (λ fewer. let e : end ≡ box.count = omega arith in rw e)
-    (λ full. let e : end ≡ paddle_count = omega arith in rw e (take_all paddle_count box.notes (omega arith) ∙ sym (take_all box.count box.notes (omega arith)))) in
-    rw (← same)
+laying_ends box before i count lengths after last u =
+    rw (← take_all i box.notes last)
     record {
       counted = λ j. record { lengths = u.sizes j; count = u.reached j };
       bytes = u.bytes;

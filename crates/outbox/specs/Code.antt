@@ -1,12 +1,12 @@
 -- What the code and the proofs are cut by: no promise under the roof needs a definition of this file.
-use Rattle.std.specs.Prelude.{◌≡◌, List, [], ◌∷◌, ◌++◌, ℕ, ◌+◌, ◌*◌, ltb, eqb, length, take, drop, set, replicate, if◌then◌else◌}
+use Rattle.std.specs.Prelude.{◌≡◌, List, [], ◌∷◌, ◌++◌, ℕ, ◌*◌, eqb, length, take, drop, set, replicate, if◌then◌else◌, Option, Some, None}
 use Rattle.post.specs.declared.Note.{Note}
 use Rattle.post.specs.Post.{placed_one}
 use Rattle.outbox.specs.Outbox.{placed, lengths_in, tally}
 use Rattle.model.specs.Model.{paddle_count, place}
 use Rattle.outbox.specs.declared.Sent.{Sent}
 use Rattle.outbox.specs.declared.Outbox.{Outbox}
-use Rattle.post.specs.Code.{no_note, sent_of, front}
+use Rattle.post.specs.Code.{sent_of}
 
 -- A whole buffer after a packet is laid into the place that begins at byte k.
 unfoldable pub placed_at : ℕ → List ℕ → List ℕ → List ℕ
@@ -27,24 +27,27 @@ unfoldable pub lone : ℕ → Sent
 lone size = record { lengths = set (lengths_in paddle_count []) 0 size; count = counted size }
 
 -- The packets of notes in their order.
-unfoldable pub noted : List Note → List (List ℕ)
+unfoldable pub noted : List (Option Note) → List (List ℕ)
 noted [] = []
 noted (n ∷ rest) = sent_of n ++ noted rest
 
--- The packets of a box: those of its first notes, as many as it counts.
+-- The packets of a box.
 unfoldable pub packets_in : Outbox → List (List ℕ)
-packets_in box = noted (take box.count box.notes)
+packets_in box = noted box.notes
 
 -- Nothing to send.
 abbrev pub no_notes : Outbox
-no_notes = record { count = 0; notes = replicate paddle_count no_note }
+no_notes = record { notes = replicate paddle_count None }
 
--- A box with one note more, behind the others; an empty note is none, and a full box stays as it is.
-unfoldable pub boxed : Outbox → Note → Outbox
-boxed box n =
-    if eqb (length (front (sent_of n))) 0 then box
-    else if ltb box.count paddle_count then record { count = box.count + 1; notes = set box.notes box.count n }
-    else box
+-- One note more, in the first free place; where there is none, it is left out.
+unfoldable pub put : Option Note → List (Option Note) → List (Option Note)
+put n [] = []
+put n (None ∷ rest) = n ∷ rest
+put n (Some m ∷ rest) = Some m ∷ put n rest
+
+-- A box with one note more.
+unfoldable pub boxed : Outbox → Option Note → Outbox
+boxed box n = record { notes = put n box.notes }
 
 -- What laying packets into a buffer promises: the count with the lengths, and every byte.
 pub record Sends (packets : List (List ℕ)) (before : List ℕ) (sent : Sent) (after : List ℕ) : Type 0 where

@@ -2,7 +2,8 @@
 // other, and counted.
 #![tactic(auto)]
 
-ghost use Rattle.std.specs.Prelude.{◌≡◌, [], min, length};
+ghost use Rattle.std.specs.Prelude.{◌≡◌, [], length, position};
+ghost use Rattle.std.specs.Option.{is_none};
 ghost use Rattle.outbox.specs.Outbox.{tally};
 ghost use Rattle.post.specs.Code.{sent_of, front};
 ghost use Rattle.outbox.specs.Code.{lone, no_notes, boxed, packets_in, counted, Sends};
@@ -21,11 +22,11 @@ pub struct Sent {
     pub count: u8,
 }
 
-// How many notes there are to send, and the notes: at most one for each paddle.
+// The notes to send in the order they arose, at most one for each paddle. The places behind them are free.
+// Stays as it is: an arrayvec was tried, and proves; but it wants a blank Note to fill itself with, and the box would be no Copy.
 #[derive(Clone, Copy)]
 pub struct Outbox {
-    pub count: u8,
-    pub notes: [Note; PADDLES],
+    pub notes: [Option<Note>; PADDLES],
 }
 
 impl Sent {
@@ -58,44 +59,39 @@ impl Outbox {
         ensures { result ≡ no_notes }
     {
         Outbox {
-            count: 0,
-            notes: [Note::none(); PADDLES],
+            notes: [None; PADDLES],
         }
     }
 
-    // One note more. An empty one is none, and a full box stays as it is.
-    #[tactic(auto, unfolding(crate::specs::Code::boxed))]
-    pub fn with(self, note: Note) -> Outbox
+    // One note more, if there is one. A full box stays as it is.
+    #[tactic(auto, using(crate::proofs::Laying::put_free, crate::proofs::Laying::put_full), unfolding(crate::specs::Code::boxed))]
+    pub fn with(mut self, note: Option<Note>) -> Outbox
         ensures { result ≡ boxed self note }
     {
-        if size(note) == 0 {
-            return self;
-        }
-        let count = self.count;
-        let at = count as usize;
-        if at < PADDLES {
-            let mut notes = self.notes;
-            notes[at] = note;
-            return Outbox {
-                count: count + 1,
-                notes,
-            };
+        if let Some(free) = self.free() {
+            self.notes[free] = note;
         }
         self
+    }
+
+    // The first free place, if there is one.
+    fn free(self) -> Option<usize>
+        ensures { result ≡ position is_none self.notes }
+    {
+        self.notes.iter().position(|note| note.is_none())
     }
 
     // Lays the packets into the places in order. One that does not fit is counted, and leaves its place alone.
     pub fn lay(self, out: &mut [u8]) -> Sent
         ensures { Sends (packets_in self) out.old result out.new }
     {
-        let end = (self.count as usize).min(PADDLES);
         let mut lengths = [0; PADDLES];
         let mut count = 0u8;
-        for note in &self.notes[..end] {
+        for note in self.notes {
             let at = count as usize;
-            let length = size(*note);
+            let length = size(note);
             let start = (at * PLACE).min(out.len());
-            post::lay(*note, &mut out[start..]);
+            post::lay(note, &mut out[start..]);
             lengths[at] = length;
             count += counted(length);
         }
@@ -105,12 +101,13 @@ impl Outbox {
 
 // The length of a note's packet, 0 where there is none.
 #[tactic(auto, using(packet::proofs::Laws::packed_length), unfolding(post::specs::Code::sent_of, post::specs::Code::front, post::specs::Post::bytes_of, post::specs::Post::enveloped))]
-fn size(note: Note) -> u8
+fn size(note: Option<Note>) -> u8
     ensures { result ≡ length (front (sent_of note)) }
 {
-    let message = note.message;
-    match message {
-        Message::Empty => 0,
+    let Some(note) = note else {
+        return 0;
+    };
+    match note.message {
         Message::One(_) => AROUND + 1,
         Message::Two(_, _) => AROUND + 2,
         Message::Three(_, _, _) => AROUND + 3,

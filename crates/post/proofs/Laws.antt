@@ -6,7 +6,7 @@ use Prim.Native.Nat.{ℕ, ◌+◌, ◌≤◌, ◌<◌, min}
 use native.Mathlib.Omega.{arith}
 use lib.Dec.{ltb}
 use lib.ListN.{length, drop, length-append, length-drop}
-use Rattle.std.specs.Prelude.{Option}
+use Rattle.std.specs.Prelude.{Option, Some, None}
 use Rattle.words.proofs.Laws.{tests, both, one_outcome, two_ways}
 use Rattle.units.specs.declared.Percent.{Percent}
 use Rattle.packet.specs.Layout.{header}
@@ -15,7 +15,7 @@ use Rattle.packet.specs.declared.Header.{Header}
 use Rattle.packet.proofs.Laws.{packed_length}
 use Rattle.vault.specs.declared.Password.{Password}
 use Rattle.post.specs.declared.Message.{Message}
-use Rattle.post.specs.declared.Message.TheVariants.{Empty, One, Two, Three}
+use Rattle.post.specs.declared.Message.TheVariants.{One, Two, Three}
 use Rattle.post.specs.declared.Note.{Note}
 use Rattle.post.specs.declared.Reply.{Reply}
 use Rattle.post.specs.declared.Reply.TheVariants.{Silence, Status, Registers}
@@ -96,16 +96,17 @@ front_length h [] most = omega arith
 front_length h (b ∷ bs) most = omega (arith, packed_length h (b ∷ bs))
 
 -- A note's message has at most three bytes, so that its packet has at most nine and fits into a place.
-pub few_bytes : (m : Message) → length (bytes_of m) ≤ 3
+pub few_bytes : (m : Option Message) → length (bytes_of m) ≤ 3
 unfolding bytes_of
-few_bytes Empty = omega arith
-few_bytes (One a) = omega arith
-few_bytes (Two a b) = omega arith
-few_bytes (Three a b c) = omega arith
+few_bytes None = omega arith
+few_bytes (Some (One a)) = omega arith
+few_bytes (Some (Two a b)) = omega arith
+few_bytes (Some (Three a b c)) = omega arith
 
-pub note_fits : (n : Note) → length (front (sent_of n)) ≤ place
-unfolding sent_of
-note_fits n = front_length (note_header n) (bytes_of n.message) (omega (arith, few_bytes n.message))
+pub note_fits : (n : Option Note) → length (front (sent_of n)) ≤ place
+unfolding sent_of front
+note_fits None = omega arith
+note_fits (Some n) = front_length (note_header n) (bytes_of (Some n.message)) (omega (arith, few_bytes (Some n.message)))
 
 -- The message of values is two bytes and the values, 18 bytes at most.
 pub values_length : (all : List ℕ) (seen : Option Password) (first count : ℕ) → length (values_from all seen first count) ≡ 2 + min 16 count

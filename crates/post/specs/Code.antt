@@ -1,12 +1,11 @@
 -- What the code and the proofs are cut by: no promise under the roof needs a definition of this file.
-use Rattle.std.specs.Prelude.{◌≡◌, true, List, [], ◌∷◌, ℕ, ltb, length, if◌then◌else◌, Option}
+use Rattle.std.specs.Prelude.{◌≡◌, true, List, [], ◌∷◌, ℕ, ltb, length, if◌then◌else◌, Option, Some, None}
 use Rattle.units.specs.Units.{percent}
 use Rattle.packet.specs.Layout.{header}
 use Rattle.packet.specs.declared.Header.{Header}
 use Rattle.vault.specs.declared.Password.{Password}
 use Rattle.places.specs.Places.{network_in, unit_in}
 use Rattle.post.specs.declared.Message.{Message}
-use Rattle.post.specs.declared.Message.TheVariants.{Empty}
 use Rattle.post.specs.declared.Note.{Note}
 use Rattle.post.specs.Post.{enveloped, bytes_of, placed_one, replied}
 use Rattle.post.specs.declared.Reply.TheVariants.{Status}
@@ -15,10 +14,6 @@ use Rattle.post.specs.declared.Reply.TheVariants.{Status}
 abbrev pub note : ℕ → ℕ → ℕ → Message → Note
 note network source destination message =
     record { network = network; source = source; destination = destination; message = message }
-
--- Nothing to be laid: the message is empty.
-abbrev pub no_note : Note
-no_note = note 0 0 0 Empty
 
 -- The header of a note's packet.
 abbrev pub note_header : Note → Header
@@ -32,8 +27,9 @@ pub record Bare (h : Header) : Type 0 where
   pub sequence : h.sequence ≡ 0
 
 -- The packets of a note, one or none.
-unfoldable pub sent_of : Note → List (List ℕ)
-sent_of n = enveloped (note_header n) (bytes_of n.message)
+unfoldable pub sent_of : Option Note → List (List ℕ)
+sent_of None = []
+sent_of (Some n) = enveloped (note_header n) (bytes_of (Some n.message))
 
 -- The packet for one place; where there is none, no bytes.
 unfoldable pub front : List (List ℕ) → List ℕ

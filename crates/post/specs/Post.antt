@@ -1,5 +1,5 @@
 -- What a switch sends: the packets of a message, a reply (01, Commands, 3 and 8), and a packet laid into its place.
-use Rattle.std.specs.Prelude.{Bool, false, List, [], ◌∷◌, ◌++◌, ℕ, min, ltb, length, drop, if◌then◌else◌, Option}
+use Rattle.std.specs.Prelude.{Bool, false, List, [], ◌∷◌, ◌++◌, ℕ, min, ltb, length, drop, if◌then◌else◌, Option, Some, None}
 use Rattle.units.specs.declared.Percent.{Percent}
 use Rattle.packet.specs.Layout.{header, packed}
 use Rattle.packet.specs.declared.Header.{Header}
@@ -7,7 +7,7 @@ use Rattle.vault.specs.declared.Password.{Password}
 use Rattle.places.specs.Places.{network_in, unit_in}
 use Rattle.registers.specs.Registers.{range_of}
 use Rattle.post.specs.declared.Message.{Message}
-use Rattle.post.specs.declared.Message.TheVariants.{Empty, One, Two, Three}
+use Rattle.post.specs.declared.Message.TheVariants.{One, Two, Three}
 use Rattle.post.specs.declared.Reply.{Reply}
 use Rattle.post.specs.declared.Reply.TheVariants.{Silence, Status, Registers}
 
@@ -20,12 +20,12 @@ unfoldable pub enveloped : Header → List ℕ → List (List ℕ)
 enveloped h [] = []
 enveloped h (byte ∷ bytes) = packed h (byte ∷ bytes) ∷ []
 
--- The bytes of a message of up to three.
-unfoldable pub bytes_of : Message → List ℕ
-bytes_of Empty = []
-bytes_of (One command) = command ∷ []
-bytes_of (Two command first) = command ∷ first ∷ []
-bytes_of (Three command first second) = command ∷ first ∷ second ∷ []
+-- The bytes of a message of one to three, if there is one.
+unfoldable pub bytes_of : Option Message → List ℕ
+bytes_of None = []
+bytes_of (Some (One command)) = command ∷ []
+bytes_of (Some (Two command first)) = command ∷ first ∷ []
+bytes_of (Some (Three command first second)) = command ∷ first ∷ second ∷ []
 
 -- 01, Commands, 3 (0x30): the message that tells the percent.
 abbrev pub status : Percent → Message
@@ -38,7 +38,7 @@ values_from all seen first count = 0x90 ∷ first ∷ range_of all seen first (m
 -- 01, Commands, 3 (0x10, 0x30): the message of each reply.
 unfoldable pub reply_message : List ℕ → Option Password → Reply → Percent → List ℕ
 reply_message all seen Silence percent = []
-reply_message all seen Status percent = bytes_of (status percent)
+reply_message all seen Status percent = bytes_of (Some (status percent))
 reply_message all seen (Registers first count) percent = values_from all seen first count
 
 -- 01, Commands, 8: the direct packets of a reply, one or none, to the one who asked.

@@ -4,7 +4,7 @@
 ghost use Rattle.std.specs.Prelude.{◌≡◌, ◌≤◌, length};
 ghost use Rattle.packet.specs.Layout.{header};
 ghost use Rattle.post.specs.Post.{replied, enveloped};
-ghost use Rattle.post.specs.Code.{no_note, sent_of, Bare, Laid};
+ghost use Rattle.post.specs.Code.{sent_of, Bare, Laid};
 
 use packet::Header;
 use units::Percent;
@@ -18,17 +18,15 @@ const VALUES: u8 = 0x90;
 // The most values that a reply holds.
 const MOST: u8 = 16;
 
-// A message of up to three bytes.
+// A message of one to three bytes.
 #[derive(Clone, Copy)]
 pub enum Message {
-    Empty,
     One(u8),
     Two(u8, u8),
     Three(u8, u8, u8),
 }
 
-// A link packet still to be laid, with network, source and link as the registers stood at its gesture. Where the message is
-// empty there is none.
+// A link packet still to be laid, with network, source and link as the registers stood at its gesture.
 #[derive(Clone, Copy)]
 pub struct Note {
     pub network: u8,
@@ -45,27 +43,17 @@ pub enum Reply {
     Registers { first: u8, count: u8 },
 }
 
-impl Note {
-    pub fn none() -> Note
-        ensures { result ≡ no_note }
-    {
-        Note {
-            network: 0,
-            source: 0,
-            destination: 0,
-            message: Message::Empty,
-        }
-    }
-}
-
-// Lays a note's packet at the front of a place and answers its whole length: 0 where there is none, or no room for it.
+// Lays the packet of a note, if there is one, at the front of a place and answers its whole length: 0 where there is none, or no
+// room for it.
 #[tactic(auto, using(crate::proofs::Laws::laid_nothing, crate::proofs::Laws::placed_nothing), unfolding(crate::specs::Code::sent_of, crate::specs::Code::front, crate::specs::Post::bytes_of, crate::specs::Post::enveloped))]
-pub fn lay(note: Note, out: &mut [u8]) -> u8
+pub fn lay(note: Option<Note>, out: &mut [u8]) -> u8
     ensures { Laid (sent_of note) out.old result out.new }
 {
+    let Some(note) = note else {
+        return 0;
+    };
     let header = bare(true, note.network, note.destination, note.source);
     match note.message {
-        Message::Empty => 0,
         Message::One(command) => put(header, &[command], out),
         Message::Two(command, first) => put(header, &[command, first], out),
         Message::Three(command, first, second) => put(header, &[command, first, second], out),

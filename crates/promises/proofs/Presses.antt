@@ -33,7 +33,7 @@ use Rattle.paddle.specs.declared.Gesture.{Gesture}
 use Rattle.paddle.specs.declared.Gesture.TheVariants.{Hold, Release, Taps}
 use Rattle.paddle.specs.declared.Paddle.{Paddle}
 use Rattle.paddle.proofs.Laws as paddle
-use Rattle.std.specs.Option.{is_none}
+use Rattle.std.specs.Option.{is_none, option_and_then}
 use Rattle.paddle.specs.Code.{due, press_for, gesture_for}
 use Rattle.lamp.specs.Lamp.{signal_set}
 use Rattle.lamp.specs.declared.Lamp.{Lamp}
@@ -49,7 +49,7 @@ use Rattle.acts.specs.declared.Core.{Core}
 use Rattle.acts.specs.declared.Effect.{Effect}
 use Rattle.acts.proofs.Laws.{contact_drives, driver_halts}
 use Rattle.gestures.proofs.Laws.{gesture_leads, gesture_writes}
-use Rattle.herald.specs.Herald.{announced, chosen, gesture_message, numbered}
+use Rattle.herald.specs.Herald.{announced, chosen, command_number, gesture_message}
 use Rattle.panel.specs.Panel.{gesture_at, paddle_at, pressed_at, released_at}
 use Rattle.panel.proofs.Laws.{paddle_low}
 use Rattle.turns.specs.Turns.{Moment, after, turned, turns}
@@ -102,14 +102,15 @@ same_chosen : (all now : List ℕ) → Agrees all now → (number : ℕ) (p : Pe
 unfolding chosen
 same_chosen all now same number p = rw (same_entry all now same (number % 16))
 
-same_numbered : (all now : List ℕ) → Agrees all now → (number : Option ℕ) (p : Percent) → numbered now number p ≡ numbered all number p
-same_numbered all now same None p = refl
-same_numbered all now same (Some number) p = same_chosen all now same number p
+same_message : (all now : List ℕ) → Agrees all now → (number : Option ℕ) (p : Percent)
+    → option_and_then (λ n. chosen now n p) number ≡ option_and_then (λ n. chosen all n p) number
+same_message all now same None p = refl
+same_message all now same (Some number) p = same_chosen all now same number p
 
 same_announced : (all now : List ℕ) → Agrees all now → (mode : Mode) (i : ℕ) (g : Option Gesture) (p : Percent) → announced now mode i g p ≡ announced all mode i g p
 unfolding announced gesture_message
 same_announced all now same mode i g p =
-    rw (same_transmit all now same i, same 0x00 (λ e. omega arith), same 0x01 (λ e. omega arith), same_numbered all now same)
+    rw (same_transmit all now same i, same 0x00 (λ e. omega arith), same 0x01 (λ e. omega arith), same_message all now same (command_number mode (transmit_in all i) g) p)
 
 -- A gesture that writes nothing and leaves mode and lamp: one tap, Hold and Release in every mode, two taps in Normal.
 record Plainly (mode : Mode) (g : Option Gesture) : Type 0 where

@@ -17,7 +17,7 @@ use Rattle.writes.specs.Writes.{applied, change_of}
 use Rattle.acts.specs.Core.{effect, entering, opened, unwritten}
 use Rattle.gestures.specs.Gestures.{acted, acted_in, acted_in_factory, acted_in_normal, acted_in_setup, leads, taps_in_factory, taps_in_normal, taps_in_setup, writes}
 use Rattle.acts.specs.declared.Core.{Core}
-use Rattle.herald.specs.Herald.{announced, chosen, command_number, gesture_message, gesture_number}
+use Rattle.herald.specs.Herald.{announced, command_number, gesture_message, gesture_number}
 use Rattle.post.specs.Post.{bytes_of, enveloped}
 use Rattle.turns.specs.Turns.{Moment, after, moment, turned}
 use Rattle.turns.specs.Code.{turns_by}
@@ -64,14 +64,14 @@ shift_acts Normal n all i c h = rw (eqb-true n 5 h)
 shift_acts Setup n all i c h = either (eqb n 2) (eqb n 10) (λ e. rw (eqb-true n 2 e)) (λ e. rw (eqb-true n 10 e)) h
 shift_acts Factory n all i c h = rw (eqb-true n 2 h)
 
-shift_message : (mode : Mode) (n : ℕ) (all : List ℕ) (i : ℕ) (p : Percent) → shifts mode n ≡ true → bytes_of (gesture_message all mode i (Some (Taps n)) p) ≡ []
-unfolding shifts gesture_message chosen command_number gesture_number bytes_of
+shift_message : (mode : Mode) (n : ℕ) (all : List ℕ) (i : ℕ) (p : Percent) → shifts mode n ≡ true → gesture_message all mode i (Some (Taps n)) p ≡ None
+unfolding shifts gesture_message command_number gesture_number
 shift_message Normal n all i p h = rw (eqb-true n 5 h)
 shift_message Setup n all i p h = refl
 shift_message Factory n all i p h = rw (eqb-true n 2 h)
 
 shift_silent : (mode : Mode) (n : ℕ) (all : List ℕ) (i : ℕ) (p : Percent) → shifts mode n ≡ true → announced all mode i (Some (Taps n)) p ≡ []
-unfolding announced enveloped
+unfolding announced enveloped bytes_of
 shift_silent mode n all i p h =
     rw (shift_message mode n all i p h) (both (λ (l : List (List ℕ)). l ≡ []) (valid (transmit_in all i).link) refl refl)
 

@@ -27,15 +27,15 @@ use Rattle.gestures.specs.Gestures.{acted}
 use Rattle.acts.specs.declared.Core.{Core}
 use Rattle.acts.specs.declared.Effect.{Effect}
 use Rattle.gestures.proofs.Laws.{nothing_acts}
-use Rattle.herald.specs.Herald.{announced, chosen, command_number, gesture_message, gesture_number}
+use Rattle.herald.specs.Herald.{announced, command_number, gesture_message, gesture_number}
 use Rattle.post.specs.Post.{bytes_of, enveloped}
 use Rattle.post.specs.declared.Note.{Note}
 use Rattle.outbox.specs.declared.Outbox.{Outbox}
 use Rattle.outbox.specs.Code.{boxed, no_notes}
-use Rattle.post.specs.Code.{front, sent_of}
+use Rattle.post.specs.Code.{sent_of}
 use Rattle.herald.specs.Code.{note_of}
 use Rattle.herald.proofs.Announcing.{note_sent}
-use Rattle.outbox.proofs.Laying.{Holds, holds_more, holds_none}
+use Rattle.outbox.proofs.Laying.{Holds, holds_more, holds_none, put_none}
 use Rattle.turns.specs.Turns.{Moment, moment, after, turned, turns}
 use Rattle.turns.specs.Code.{turns_by, Stands, Turned, TakesTurn}
 use Rattle.turns.specs.declared.After.{After}
@@ -53,7 +53,7 @@ followed_nothing c = rw (over_kept c.first, over_kept c.second)
 
 -- A gesture in code: the act, its write, the percent, the password and the note.
 pub turned_stands :
-    (all all' : List ℕ) (c : Core) (w w' : Password) (i : ℕ) (g : Option Gesture) (e : Effect) (p : Percent) (n : Note) (a : After)
+    (all all' : List ℕ) (c : Core) (w w' : Password) (i : ℕ) (g : Option Gesture) (e : Effect) (p : Percent) (n : Option Note) (a : After)
     → e ≡ acted all i g c
     → all' ≡ applied e.write [] all
     → p ≡ percent_of e.core.dimmer.level
@@ -115,14 +115,14 @@ pub nothing_done_lem : (g : Option Gesture) → is_none g ≡ true → g ≡ Non
 nothing_done_lem None h = refl
 nothing_done_lem (Some g) h = absurd (true≢false (sym h))
 
-no_message : (mode : Mode) (all : List ℕ) (i : ℕ) (p : Percent) → bytes_of (gesture_message all mode i None p) ≡ []
-unfolding gesture_message chosen command_number gesture_number bytes_of
+no_message : (mode : Mode) (all : List ℕ) (i : ℕ) (p : Percent) → gesture_message all mode i None p ≡ None
+unfolding gesture_message command_number gesture_number
 no_message Normal all i p = refl
 no_message Setup all i p = refl
 no_message Factory all i p = refl
 
 no_packet : (mode : Mode) (all : List ℕ) (i : ℕ) (p : Percent) → announced all mode i None p ≡ []
-unfolding announced enveloped
+unfolding announced enveloped bytes_of
 no_packet mode all i p = rw (no_message mode all i p) (both (λ (l : List (List ℕ)). l ≡ []) (valid (transmit_in all i).link) refl refl)
 
 pub turned_nothing : (i : ℕ) (m : Moment) → turned i None m ≡ m
@@ -130,18 +130,15 @@ unfolding turned after unwritten applied change_of change_at
 turned_nothing i m =
     rw (nothing_acts m.registers i m.core, no_packet, append-nil m.sent, nothing_followed m.change)
 
--- So the code may pass it over: its note is none.
-no_note : (all : List ℕ) (mode : Mode) (i : ℕ) (p : Percent) → sent_of (note_of all mode i None p) ≡ []
-no_note all mode i p = note_sent all mode i None p ∙ no_packet mode all i p
-
-unboxed : (box : Outbox) (n : Note) → sent_of n ≡ [] → boxed box n ≡ box
-unfolding boxed front
-unboxed box n none = rw none
+-- So the code may pass it over: there is no note of it.
+no_note : (all : List ℕ) (mode : Mode) (i : ℕ) (p : Percent) → note_of all mode i None p ≡ None
+unfolding note_of
+no_note all mode i p = rw (no_message mode all i p) (both (λ (n : Option Note). n ≡ None) (valid (transmit_in all i).link) refl refl)
 
 pub passed_over : (i : ℕ) (g : Option Gesture) (b : AfterAll) (all : List ℕ) → is_none g ≡ true → TakesTurn i g b all b all
-unfolding changed became
+unfolding changed became boxed sent_of
 passed_over i g b all none =
-    let none_sent = no_note all b.core.mode i (percent_of b.core.dimmer.level) in
+    let unnoted = no_note all b.core.mode i (percent_of b.core.dimmer.level) in
     let nothing-turned = turned_nothing i (moment all b.core [] nothing) in
     rw (nothing_done_lem g none)
     record {
@@ -149,10 +146,10 @@ passed_over i g b all none =
           record {
             core = rw nothing-turned;
             registers = rw nothing-turned;
-            sent = rw (nothing-turned, none_sent);
+            sent = rw (nothing-turned, unnoted);
             password = rw nothing-turned;
           };
-      noted = sym (unboxed b.outbox _ none_sent);
+      noted = rw unnoted (ap (λ (ns : List (Option Note)). record { notes = ns }) (sym (put_none b.outbox.notes)));
     }
 
 pub takes_turn :

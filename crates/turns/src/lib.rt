@@ -15,12 +15,12 @@ use post::Note;
 use units::Percent;
 use vault::Password;
 
-// What a gesture leaves: the core and the password after it, and the note of what it sends.
+// What a gesture leaves: the core and the password after it, and the note of what it sends, if it sends.
 #[derive(Clone, Copy)]
 struct After {
     core: Core,
     password: Password,
-    note: Note,
+    note: Option<Note>,
 }
 
 // What the gestures so far leave, with all that they send.

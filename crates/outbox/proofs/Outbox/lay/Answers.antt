@@ -2,7 +2,7 @@
 use mathlib.Core.Path.{◌≡◌}
 use Prim.Native.Nat.{◌≤◌}
 use native.Mathlib.Omega.{arith}
-use lib.ListN.{length, length-take}
+use lib.ListN.{length}
 use borrow.Author.Rules.{rules}
 use Rattle.model.specs.Model.{paddle_count}
 use Rattle.outbox.specs.Outbox.{lengths_in}
@@ -22,10 +22,10 @@ overflow_add-count c =
 pub loop-note-preserved : goal.loop-note-preserved
 loop-note-preserved c =
     let whole : length c.args.self.notes ≡ paddle_count = search (rules, length_of_mapped) in
-    laying_again _ _ _ _ _ _ c.loop-note.invariant _ _ _ _ _ (rw (length-take _ c.args.self.notes) (omega arith))
+    laying_again _ _ _ _ _ _ c.loop-note.invariant _ _ _ _ _ (omega arith)
     c.size-length.ensures c.min-start.ensures c.lay-count.ensures c.counted-count.ensures
 
 pub returns : goal.returns
 returns c =
     let whole : length c.args.self.notes ≡ paddle_count = search (rules, length_of_mapped) in
-    laying_ends c.args.self _ _ _ _ _ whole (rw c.min-end.ensures at c.loop-note.invariant) (omega arith)
+    laying_ends c.args.self _ _ _ _ _ (omega arith) c.loop-note.invariant
