@@ -36,6 +36,7 @@ pub struct Note {
 }
 
 // What a packet is answered with.
+// Stays as it is: only the definitions say Silence (`reply_of`, `hue_of`). No caller asks for it, so an Option would be for nothing.
 #[derive(Clone, Copy)]
 pub enum Reply {
     Silence,
