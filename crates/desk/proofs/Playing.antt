@@ -1,5 +1,6 @@
 -- What the proofs of `play` lean on: a start over what its callees promise.
-use Rattle.std.specs.Prelude.{if◌then◌else◌}
+use Prim.Native.Char.{code}
+use Rattle.std.specs.Prelude.{Some, take, if◌then◌else◌}
 use Prim.Native.Nat.{ℕ}
 use mathlib.Core.Bool.{Bool, true, false}
 use mathlib.Core.List.{List}
@@ -12,13 +13,15 @@ use Rattle.panel.specs.Panel.{byte_count}
 use Rattle.state.specs.Code.{Sized}
 use Rattle.state.proofs.Laws.{core_back, password_back}
 use Rattle.panel.proofs.Laws.{paddles_back}
-use Rattle.switch.specs.Switch.{Plain, plain, answer_of, answer_with, Arrays, arrays, switch_in, kept_in}
+use Rattle.switch.specs.Switch.{Plain, plain, answer_of, answer_with, Arrays, arrays, switch_in, kept_in, press, release, receive, restart}
 use Rattle.switch.specs.Respond.{Starts, whole, start_answer, started_from}
 use Rattle.answers.specs.declared.Answer.{Answer}
 use Rattle.page.specs.Page.{Page, puts}
 use Rattle.ledger.specs.Writing.{started}
-use Rattle.stage.specs.Stage.{Scene, scene, Plays}
-use Rattle.desk.specs.Playing.{cleared, begun}
+use Rattle.line.specs.declared.Line.TheVariants.{Press, Release, Packet, Restart}
+use Rattle.stage.specs.declared.Event.TheVariants as happens
+use Rattle.stage.specs.Stage.{Scene, scene, Plays, told, letter_of}
+use Rattle.desk.specs.Playing.{cleared, begun, played}
 
 -- A start is answered 0 where the image is whole, and there alone.
 started_there : (image : List ℕ) → eqb (start_answer image).number 0 ≡ whole image
@@ -61,3 +64,14 @@ begins {before} {s} {image} {c} {n} {l} {all} {answer} before_is start wrote =
       after = λ i. scene (there i) (left i) before.room before.buffer;
       written = wrote ∙ rw start.answered;
     })
+
+-- A line that is an event does what its event does.
+pub record TellsItsEvent (number : ℕ) (bytes : List ℕ) (s : Scene) : Type 0 where
+  pub pressed : (n : ℕ) → played number (Some (Press n)) bytes s ≡ told (letter_of (happens.Press n)) (press n) s
+  pub released : (n : ℕ) → played number (Some (Release n)) bytes s ≡ told (letter_of (happens.Release n)) (release n) s
+  pub received : (n : ℕ) → played number (Some (Packet n)) bytes s ≡ told (code "k") (receive (take n bytes)) s
+  pub restarted : played number (Some Restart) bytes s ≡ told (letter_of happens.Restart) restart s
+
+pub told_line : (number : ℕ) (bytes : List ℕ) (s : Scene) → TellsItsEvent number bytes s
+unfolding played
+told_line number bytes s = record { pressed = λ n. refl; released = λ n. refl; received = λ n. refl; restarted = refl }

@@ -1,12 +1,13 @@
 -- The gestures one after the other, as the code goes through them: each begins anew with nothing sent and nothing changed.
 use Rattle.std.specs.Prelude.{Option, Some, None}
-use mathlib.Core.Path.{◌≡◌, refl, sym, ap, ◌∙◌}
+use mathlib.Core.Path.{◌≡◌, refl, sym, ap, subst, ◌∙◌}
 use mathlib.Core.Bool.{true, true≢false}
 use mathlib.Core.List.{List, [], ◌∷◌, ◌++◌, map, append-nil}
 use native.Mathlib.Omega.{arith}
-use Prim.Native.Nat.{ℕ, zero, suc, ◌+◌, ◌<◌}
+use Prim.Native.Nat.{ℕ, zero, suc, ◌+◌, ◌<◌, ◌≤◌}
 use native.Mathlib.Numerals.{add-one}
 use lib.ListN.{length, get_or, take}
+use Rattle.std.proofs.lemmas.List.{take_all}
 use Rattle.words.proofs.Laws.{both, one_outcome}
 use Rattle.units.specs.Units.{percent_of}
 use Rattle.units.specs.declared.Percent.{Percent}
@@ -31,7 +32,7 @@ use Rattle.herald.specs.Herald.{announced, command_number, gesture_message, gest
 use Rattle.post.specs.Post.{bytes_of, enveloped}
 use Rattle.post.specs.declared.Note.{Note}
 use Rattle.outbox.specs.declared.Outbox.{Outbox}
-use Rattle.outbox.specs.Code.{boxed, no_notes}
+use Rattle.outbox.specs.Code.{boxed, no_notes, packets_in}
 use Rattle.post.specs.Code.{sent_of}
 use Rattle.herald.specs.Code.{note_of}
 use Rattle.herald.proofs.Announcing.{note_sent}
@@ -197,6 +198,17 @@ turning_again gs m began i now all next all' t inside room takes =
       holds = rw (← s.sent) (holds_more i before.sent now.outbox next.outbox n t.holds room takes.noted);
       password = s.password ∙ rw (t.password, changed_followed before.change one.change began);
     }
+
+-- When all of them have had it, the code stands at the moment after them all.
+pub turning_ends :
+    (gs : List (Option Gesture)) (m : Moment) (began : Password) (i : ℕ) (now : AfterAll) (all : List ℕ)
+    → Turning (turns_by 0 (take i gs) m) began i now all → length gs ≤ i
+    → Stands (turns_by 0 gs m) began now.core all (packets_in now.outbox) now.password
+turning_ends gs m began i now all t h =
+    let whole : take i gs ≡ gs = take_all i gs h in
+    let s : Stands (turns_by 0 (take i gs) m) began now.core all (packets_in now.outbox) now.password =
+    record { core = t.core; registers = t.registers; sent = t.holds.inside; password = t.password } in
+    subst (λ (l : List (Option Gesture)). Stands (turns_by 0 l m) began now.core all (packets_in now.outbox) now.password) whole s
 
 -- The turns of paddles are those of their gestures.
 pub turns_by_lem : (i : ℕ) (ps : List Paddle) (m : Moment) → turns i ps m ≡ turns_by i (map gesture ps) m
