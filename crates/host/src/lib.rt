@@ -31,9 +31,11 @@ impl From<Answer> for Figures {
 
     #[tactic(auto, unfolding(crate::specs::Host::in_figures))]
     fn from(answer: Answer) -> Figures {
+        let sent = answer.sent;
+        let lengths = sent.lengths;
         Figures {
-            lengths: answer.sent.lengths,
-            count: answer.sent.count,
+            lengths,
+            count: sent.count,
             number: answer.number,
             level: answer.level.0,
             output: answer.output.0,
