@@ -35,8 +35,7 @@ fn taps_in_normal(core: Core, all: &[u8; 256], paddle: u8, taps: u8) -> Effect
     ensures { result ≡ taps_in_normal all.now paddle taps core }
 {
     match taps {
-        1 => doing(core, all, paddle, places::action_of(all, paddle, 1)).unwritten(),
-        2 => doing(core, all, paddle, places::action_of(all, paddle, 2)).unwritten(),
+        1 | 2 => doing(core, all, paddle, places::action_of(all, paddle, taps)).unwritten(),
         5 => core.opened(),
         _ => core.unwritten(),
     }

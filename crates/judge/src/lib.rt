@@ -68,7 +68,7 @@ pub enum Drive {
     Blink(u8),
 }
 
-// What stands for a missing rate.
+// What stands for a missing rate. Stays as it is: document 01 gives 255 this meaning in a packet and in a register too.
 const DEFAULT: u8 = 255;
 
 #[tactic(auto, unfolding(crate::specs::Judge::judged))]

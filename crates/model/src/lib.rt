@@ -1,5 +1,6 @@
 // What a switch of this model is made of: its paddles and contacts, where each paddle's registers begin, and the places of the
 // answer buffer. Nothing else says any of this again.
+// Stays as it is: paddles and contacts go by number, as C names the contacts, and tables count on past the last (docs/DECISIONS.md 52).
 #![tactic(auto)]
 
 ghost use Rattle.std.specs.Prelude.{◌≡◌};

@@ -26,7 +26,7 @@ use vault::Mode;
 use verdict::seen_by;
 use writes::{Write, apply};
 
-// What a granted order does, and the length of the reply. `values`: what a Set Registers brings.
+// What a granted order does, and the length of the reply, 0 for none, as C is handed it. `values`: what a Set Registers brings.
 pub fn obey(
     order: Order,
     source: u8,

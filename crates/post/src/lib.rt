@@ -18,7 +18,7 @@ const VALUES: u8 = 0x90;
 // The most values that a reply holds.
 const MOST: u8 = 16;
 
-// A message of one to three bytes.
+// A message of one to three bytes. Stays as it is: there is no heap, and an array with a length would hold lengths that no message has.
 #[derive(Clone, Copy)]
 pub enum Message {
     One(u8),
@@ -36,7 +36,8 @@ pub struct Note {
 }
 
 // What a packet is answered with.
-// Stays as it is: only the definitions say Silence (`reply_of`, `hue_of`). No caller asks for it, so an Option would be for nothing.
+// Stays as it is: `send` answers for Silence too. The definitions ask for it (`reply_of`), the code never does, so an Option would spare
+// nothing.
 #[derive(Clone, Copy)]
 pub enum Reply {
     Silence,
@@ -45,7 +46,7 @@ pub enum Reply {
 }
 
 // Lays the packet of a note, if there is one, at the front of a place and answers its whole length: 0 where there is none, or no
-// room for it.
+// room for it. Stays as it is: C is handed these lengths, and 0 for no packet.
 #[tactic(auto, using(crate::proofs::Laws::laid_nothing, crate::proofs::Laws::placed_nothing), unfolding(crate::specs::Code::sent_of, crate::specs::Code::front, crate::specs::Post::bytes_of, crate::specs::Post::enveloped))]
 pub fn lay(note: Option<Note>, out: &mut [u8]) -> u8
     ensures { Laid (sent_of note) out.old result out.new }

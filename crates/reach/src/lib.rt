@@ -90,7 +90,7 @@ impl Target {
         matches!(self, Target::Component(_))
     }
 
-    // The component that a link packet reaches.
+    // The component that a link packet reaches. Stays as it is: of the others it answers 0, and what is permitted never asks them.
     pub fn component(self) -> u8
         ensures { result ≡ component_of self }
     {

@@ -42,18 +42,17 @@ pub fn range(all: &[u8; 256], seen: Option<Password>, first: u8, out: &mut [u8])
     if SECOND < start && end <= SIZE {
         out.copy_from_slice(&all[start..end]);
     } else {
-        read_each(all, seen, start, out);
+        read_each(all, seen, first, out);
     }
 }
 
 // Elsewhere each place is looked at.
 #[tactic(auto, using(crate::proofs::Laws::range_is), unfolding(crate::specs::Registers::read_at))]
-fn read_each(all: &[u8; 256], seen: Option<Password>, start: usize, out: &mut [u8])
-    requires { start < 256 }
-    ensures { out.new ≡ range_of all.now seen start (length out.old) }
+fn read_each(all: &[u8; 256], seen: Option<Password>, first: u8, out: &mut [u8])
+    ensures { out.new ≡ range_of all.now seen first (length out.old) }
 {
     for (i, byte) in out.iter_mut().enumerate() {
-        let place = start + i;
+        let place = first as usize + i;
         *byte = masked(seen, place, register(all, place));
     }
 }

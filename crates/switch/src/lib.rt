@@ -16,7 +16,8 @@ use outbox::Sent;
 use state::parts::core_of;
 use state::{COUNTERS, NUMBERS};
 
-// What is shown of the switch as it is kept.
+// What is shown of the switch as it is kept. Stays as it is: an event promises its answer as a whole (`Responds`). One that handed back a
+// Result of what was sent would need a second function, with a second contract, to tell it.
 pub fn shown(
     number: u8,
     sent: Sent,

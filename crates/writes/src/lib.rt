@@ -10,7 +10,9 @@ use units::Percent;
 use vault::Password;
 
 // What an event writes. The bytes of `Values` are lent beside it.
-// Stays as it is: no Option of a write, since `unwritten` alone says Nothing, and every other act would wrap what it writes.
+// Stays as it is: no Option of a write. Two acts write nothing (`unwritten`, `to_save`), and all others would wrap what they write. And a
+// write that held its values would put the packet's lifetime into Effect, Work and Order, and a reference into the definitions that the
+// promises are written in.
 #[derive(Clone, Copy)]
 pub enum Write {
     Nothing,
@@ -49,7 +51,7 @@ pub fn apply(write: Write, values: &[u8], all: &mut [u8; 256])
         Write::Save(percent) => store(SAVED, percent.0, all),
         Write::Preset { component, percent } => store(level_place(component), percent.0, all),
         Write::Factory => store_factory(all),
-        Write::Values { first } => store_values(first as usize, values, all),
+        Write::Values { first } => store_values(first, values, all),
     }
 }
 
@@ -104,25 +106,24 @@ fn store_factory(all: &mut [u8; 256])
 
 // Past the password and within the registers the values are copied; elsewhere each place is looked at.
 #[tactic(auto, using(crate::proofs::Writing::values_laid))]
-fn store_values(first: usize, values: &[u8], all: &mut [u8; 256])
-    requires { first < 256 }
+fn store_values(first: u8, values: &[u8], all: &mut [u8; 256])
     ensures { all.new ≡ values_by (length values.now) first values.now all.old }
 {
-    let end = first + values.len();
-    if SECOND < first && end <= SIZE {
-        all[first..end].copy_from_slice(values);
+    let start = first as usize;
+    let end = start + values.len();
+    if SECOND < start && end <= SIZE {
+        all[start..end].copy_from_slice(values);
     } else {
         store_each(first, values, all);
     }
 }
 
 #[tactic(auto, using(crate::proofs::Writing::values_more), unfolding(crate::specs::Writes::values_by))]
-fn store_each(first: usize, values: &[u8], all: &mut [u8; 256])
-    requires { first < 256 }
+fn store_each(first: u8, values: &[u8], all: &mut [u8; 256])
     ensures { all.new ≡ values_by (length values.now) first values.now all.old }
 {
     for (i, value) in values.iter().enumerate() {
-        store(first + i, *value, all);
+        store(first as usize + i, *value, all);
     }
 }
 
