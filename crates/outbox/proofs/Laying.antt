@@ -12,6 +12,7 @@ use Rattle.std.specs.Prelude.{Option, Some, None}
 use Rattle.std.specs.Option.{is_none}
 use Rattle.std.specs.List.{position_or_len}
 use Rattle.std.proofs.lemmas.List.{map-append}
+use Rattle.std.proofs.lemmas.Option.{none-some}
 use Rattle.words.proofs.Laws.{both, one_outcome}
 use Rattle.units.specs.declared.Percent.{Percent}
 use Rattle.model.specs.Model.{paddle_count, place}
@@ -88,14 +89,24 @@ pub noted_more : (ns : List (Option Note)) (n : Option Note) → noted (ns ++ (n
 unfolding noted
 noted_more ns n = rw (noted_append ns (n ∷ []), append-nil (sent_of n))
 
--- The first free place, by its number: where there is one the note is put there.
-pub put_free : (n : Option Note) (ns : List (Option Note)) → position_or_len is_none ns < length ns → put n ns ≡ set ns (position_or_len is_none ns) n
+-- A place that is free, with none before it: the note is put there.
+pub free_here :
+    (n : Option Note) (i : ℕ) (ns : List (Option Note)) → i < length ns → i ≤ position_or_len is_none ns → get_or ns i None ≡ None → put n ns ≡ set ns i n
 unfolding put
-put_free n [] h = absurd (omega arith)
-put_free n (None ∷ ns) h = refl
-put_free n (Some m ∷ ns) h =
-    let next : 1 + position_or_len is_none ns ≡ suc (position_or_len is_none ns) = omega arith in
-    rw next (ap (λ (l : List (Option Note)). Some m ∷ l) (put_free n ns (omega arith)))
+free_here n i [] h low free = absurd (omega arith)
+free_here n zero (None ∷ ns) h low free = refl
+free_here n (suc i) (None ∷ ns) h low free = absurd (omega arith)
+free_here n zero (Some m ∷ ns) h low free = absurd (none-some m (sym free))
+free_here n (suc i) (Some m ∷ ns) h low free = ap (λ (l : List (Option Note)). Some m ∷ l) (free_here n i ns (omega arith) (omega arith) free)
+
+-- A place that is taken is passed over, and where all are taken the note is left out.
+pub free_later :
+    (i : ℕ) (ns : List (Option Note)) → i < length ns → i ≤ position_or_len is_none ns → (get_or ns i None ≡ None → ⊥) → i + 1 ≤ position_or_len is_none ns
+free_later i [] h low taken = absurd (omega arith)
+free_later zero (None ∷ ns) h low taken = absurd (taken refl)
+free_later (suc i) (None ∷ ns) h low taken = absurd (omega arith)
+free_later zero (Some m ∷ ns) h low taken = omega arith
+free_later (suc i) (Some m ∷ ns) h low taken = let e = free_later i ns (omega arith) (omega arith) taken in omega arith
 
 pub put_full : (n : Option Note) (ns : List (Option Note)) → length ns ≤ position_or_len is_none ns → put n ns ≡ ns
 unfolding put
