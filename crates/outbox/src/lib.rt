@@ -22,7 +22,7 @@ pub struct Sent {
 }
 
 // The notes to send in the order they arose, at most one for each paddle. The places behind them are free.
-// Stays as it is: an arrayvec was tried, and proves; but it wants a blank Note to fill itself with, and the box would be no Copy.
+// Stays as it is: an arrayvec was tried in part, and is no plainer. It wants a blank Note to fill itself with, and is no Copy.
 #[derive(Clone, Copy)]
 pub struct Outbox {
     pub notes: [Option<Note>; PADDLES],
