@@ -22,7 +22,7 @@ pub struct Answer {
 }
 
 // Why a start or an event is refused before anything else of it is looked at: the numbers 1 to 3. What a packet is refused for is
-// packet's `Flaw` and judge's `Denied`.
+// packet's `Flaw` and judge's `Denied`. Stays as it is: `number` says what it gives, which `u8::from` would not.
 #[derive(Clone, Copy, Debug, PartialEq, Eq)]
 pub enum Refusal {
     Image,

@@ -13,6 +13,7 @@ use verbs::{Verb, argument, optional};
 
 // What a packet is refused for: its network, its destination, its command, its arguments, what else the command asks, or a wrong password,
 // which is not found here.
+// Stays as it is: `number` says what it gives, which `u8::from` would not.
 #[derive(Clone, Copy, Debug, PartialEq, Eq)]
 pub enum Denied {
     Network,

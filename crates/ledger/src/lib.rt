@@ -68,6 +68,7 @@ fn state<const N: usize>(page: &mut Page<N>, answer: Answer)
     page.text(mode_word(answer.mode));
 }
 
+// Stays as it is: a page is written by bytes. By Display and `write!` each word would give a Result to be thrown away.
 fn colour_word(colour: Colour) -> &'static [u8]
     ensures { result.now ≡ colour_word colour }
 {

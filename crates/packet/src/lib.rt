@@ -33,7 +33,7 @@ pub struct Header {
     pub source: u8,
 }
 
-// Why the reader refuses a packet: the numbers 4 to 8.
+// Why the reader refuses a packet: the numbers 4 to 8. Stays as it is: `number` says what it gives, which `u8::from` would not.
 #[derive(Clone, Copy, Debug, PartialEq, Eq)]
 pub enum Flaw {
     Short,

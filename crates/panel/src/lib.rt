@@ -207,6 +207,7 @@ fn keep_contacts(i: usize, new: u8, paddles: &mut [u8; BYTES])
     }
 }
 
+// Stays as it is: the byte is C's, and what its upper bits hold is kept, so no type turns it there and back.
 // Whether the local contact is down.
 #[tactic(auto, unfolding(crate::specs::Panel::local_in))]
 fn local_in(contacts: u8) -> bool

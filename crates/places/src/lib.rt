@@ -62,6 +62,7 @@ pub struct Entry {
 }
 
 // Entries into Setup, and restarts.
+// Stays as it is: `place` says what it gives, which `usize::from` would not.
 #[derive(Clone, Copy)]
 pub enum Counter {
     Setups,

@@ -37,6 +37,7 @@ pub fn write(header: Header, message: &[u8], out: &mut [u8]) -> Result<u8, Unwri
     Ok(whole)
 }
 
+// Stays as it is: a header that is in range is no type of its own. `first` and `second` ask for their own fields alone.
 #[tactic(auto, unfolding(crate::specs::Writing::fields_in_range))]
 fn ranged(header: Header, size: usize) -> bool
     ensures { result ≡ fields_in_range header size }
