@@ -19,7 +19,8 @@ const ROOM: u32 = 4096;
 const TICKS: u32 = u32::MAX;
 
 // A line of a script that reads. `Pass` is passed over; `Image` and `Packet` say how many bytes they have.
-// Stays as it is: a line that held its bytes would borrow them from the lent ones, and of what a result borrows no contract can say the end.
+// Stays as it is: a line that held its bytes would borrow them from the lent ones, and of what a result borrows no contract can say
+// the end.
 #[derive(Clone, Copy)]
 pub enum Line {
     Pass,

@@ -8,8 +8,8 @@ ghost use Rattle.registers.specs.Code.{Took};
 use places::{COMPONENTS, FIRST, SECOND, SIZE};
 use vault::Password;
 
-// Copies a lent image into the registers and takes the password out of it. Where the image is not 256 bytes there is none, which
-// is answered by 1, and the registers keep theirs.
+// Copies a lent image into the registers and takes the password out of it. Where the image is not 256 bytes there is none
+// (wakes answers 1), and the registers keep theirs.
 #[tactic(auto, unfolding(crate::specs::Code::taken_of, crate::specs::Code::after_taking, crate::specs::Registers::apart, crate::specs::Registers::password_in))]
 pub fn take(image: &[u8], all: &mut [u8; 256]) -> Option<Password>
     ensures { Took image.now all.old result all.new }
