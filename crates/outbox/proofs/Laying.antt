@@ -6,13 +6,10 @@ use Prim.Native.Nat.{ℕ, zero, suc, ◌+◌, ◌-◌, ◌*◌, ◌≤◌, ◌<�
 use native.Mathlib.Numerals.{add-one}
 use native.Mathlib.Omega.{arith}
 use lib.Dec.{eqb}
-use lib.ListN.{length, get_or, take, drop, set, replicate, length-append, length-drop, drop_of_length-le}
+use lib.ListN.{length, get_or, take, drop, set, replicate, length-append, length-take, length-drop, drop_of_length-le}
 use lib.Seq.{take-suc, take_all}
 use Rattle.std.specs.Prelude.{Option, Some, None}
-use Rattle.std.specs.Option.{is_none}
-use Rattle.std.specs.List.{position_or_len}
-use Rattle.std.proofs.lemmas.List.{map-append}
-use Rattle.std.proofs.lemmas.Option.{none-some}
+use Rattle.std.proofs.lemmas.List.{length-set, set_past}
 use Rattle.words.proofs.Laws.{both, one_outcome}
 use Rattle.units.specs.declared.Percent.{Percent}
 use Rattle.model.specs.Model.{paddle_count, place}
@@ -25,7 +22,7 @@ use Rattle.outbox.specs.declared.Outbox.{Outbox}
 use Rattle.post.specs.Post.{enveloped, headed, reply_message, replied, placed_one}
 use Rattle.outbox.specs.Outbox.{placed, lengths_in, tally}
 use Rattle.post.specs.Code.{sent_of, front, Laid}
-use Rattle.outbox.specs.Code.{placed_at, counted, lone, noted, packets_in, no_notes, put, boxed, Sends}
+use Rattle.outbox.specs.Code.{placed_at, counted, lone, noted, packets_in, no_notes, past_free, taken_to, boxed, Sends}
 use Rattle.outbox.proofs.Laws.{place_front, clamped, note_next, note_count, message_count, whole_buffer, reply_placed}
 use Rattle.post.proofs.Laws.{note_fits, laid_fits, reply_fits}
 
@@ -80,7 +77,7 @@ reply_sends all seen to reply p before after n r room laid e =
     }
 
 -- The packets of notes, one note more.
-noted_append : (ns ms : List (Option Note)) → noted (ns ++ ms) ≡ noted ns ++ noted ms
+pub noted_append : (ns ms : List (Option Note)) → noted (ns ++ ms) ≡ noted ns ++ noted ms
 unfolding noted
 noted_append [] ms = refl
 noted_append (n ∷ ns) ms = rw (noted_append ns ms) (sym (append_assoc (sent_of n) (noted ns) (noted ms)))
@@ -89,99 +86,137 @@ pub noted_more : (ns : List (Option Note)) (n : Option Note) → noted (ns ++ (n
 unfolding noted
 noted_more ns n = rw (noted_append ns (n ∷ []), append-nil (sent_of n))
 
--- A place that is free, with none before it: the note is put there.
-pub free_here :
-    (n : Option Note) (i : ℕ) (ns : List (Option Note)) → i < length ns → i ≤ position_or_len is_none ns → get_or ns i None ≡ None → put n ns ≡ set ns i n
-unfolding put
-free_here n i [] h low free = absurd (omega arith)
-free_here n zero (None ∷ ns) h low free = refl
-free_here n (suc i) (None ∷ ns) h low free = absurd (omega arith)
-free_here n zero (Some m ∷ ns) h low free = absurd (none-some m (sym free))
-free_here n (suc i) (Some m ∷ ns) h low free = ap (λ (l : List (Option Note)). Some m ∷ l) (free_here n i ns (omega arith) (omega arith) free)
+-- No place is taken where none is up to the last one.
+nothing_taken : (ns : List (Option Note)) → taken_to ns ≡ 0 → noted ns ≡ []
+unfolding taken_to past_free noted sent_of
+nothing_taken [] e = refl
+nothing_taken (None ∷ ns) e = nothing_taken ns (go (taken_to ns) e)
+  where
+    go : (k : ℕ) → past_free k ≡ 0 → k ≡ 0
+    go zero h = refl
+    go (suc k) h = absurd (omega arith)
+nothing_taken (Some n ∷ ns) e = absurd (omega arith)
 
--- A place that is taken is passed over, and where all are taken the note is left out.
-pub free_later :
-    (i : ℕ) (ns : List (Option Note)) → i < length ns → i ≤ position_or_len is_none ns → (get_or ns i None ≡ None → ⊥) → i + 1 ≤ position_or_len is_none ns
-free_later i [] h low taken = absurd (omega arith)
-free_later zero (None ∷ ns) h low taken = absurd (taken refl)
-free_later (suc i) (None ∷ ns) h low taken = absurd (omega arith)
-free_later zero (Some m ∷ ns) h low taken = omega arith
-free_later (suc i) (Some m ∷ ns) h low taken = let e = free_later i ns (omega arith) (omega arith) taken in omega arith
+-- The places up to one more of them: as many as there are, where that one is taken, and else as before.
+more_taken : (ns : List (Option Note)) (n : Note) → taken_to (ns ++ (Some n ∷ [])) ≡ suc (length ns)
+unfolding taken_to past_free
+more_taken [] n = refl
+more_taken (None ∷ ns) n = rw (more_taken ns n) refl
+more_taken (Some m ∷ ns) n = rw (more_taken ns n) refl
 
-pub put_full : (n : Option Note) (ns : List (Option Note)) → length ns ≤ position_or_len is_none ns → put n ns ≡ ns
-unfolding put
-put_full n [] h = refl
-put_full n (None ∷ ns) h = absurd (omega arith)
-put_full n (Some m ∷ ns) h = ap (λ (l : List (Option Note)). Some m ∷ l) (put_full n ns (omega arith))
+none_more_taken : (ns : List (Option Note)) → taken_to (ns ++ (None ∷ [])) ≡ taken_to ns
+unfolding taken_to past_free
+none_more_taken [] = refl
+none_more_taken (None ∷ ns) = rw (none_more_taken ns) refl
+none_more_taken (Some m ∷ ns) = rw (none_more_taken ns) refl
+
+pub taken_here : (i : ℕ) (ns : List (Option Note)) → i < length ns → (get_or ns i None ≡ None → ⊥) → taken_to (take (i + 1) ns) ≡ i + 1
+taken_here i ns h taken = rw (add-one i, take-suc ns i None h) (go (get_or ns i None) taken)
+  where
+    go : (n : Option Note) → (n ≡ None → ⊥) → taken_to (take i ns ++ (n ∷ [])) ≡ suc i
+    go None k = absurd (k refl)
+    go (Some m) k = more_taken (take i ns) m ∙ rw (length-take i ns) (omega arith)
+
+pub taken_before : (i : ℕ) (ns : List (Option Note)) → i < length ns → get_or ns i None ≡ None → taken_to (take (i + 1) ns) ≡ taken_to (take i ns)
+taken_before i ns h free = rw (add-one i, take-suc ns i None h, free) (none_more_taken (take i ns))
+
+-- A note put behind the last place that is taken adds its packets behind those before it.
+noted_put : (ns : List (Option Note)) (n : Option Note) → taken_to ns < length ns → noted (set ns (taken_to ns) n) ≡ noted ns ++ sent_of n
+unfolding taken_to past_free noted sent_of
+noted_put [] n h = absurd (omega arith)
+noted_put (None ∷ ns) n h = go (taken_to ns) refl h (noted_put ns n)
+  where
+    go : (k : ℕ) → taken_to ns ≡ k → past_free k < suc (length ns)
+        → (taken_to ns < length ns → noted (set ns (taken_to ns) n) ≡ noted ns ++ sent_of n)
+        → noted (set (None ∷ ns) (past_free k) n) ≡ noted ns ++ sent_of n
+    go zero e l more = rw (nothing_taken ns e) (append-nil (sent_of n))
+    go (suc k) e l more = rw (← e) (more (omega (arith, e, l)))
+noted_put (Some m ∷ ns) n h = rw (noted_put ns n (omega arith)) (sym (append_assoc (sent_of (Some m)) (noted ns) (sent_of n)))
+
+taken_put : (ns : List (Option Note)) (n : Option Note) → taken_to (set ns (taken_to ns) n) ≤ suc (taken_to ns)
+unfolding taken_to past_free
+taken_put [] n = omega arith
+taken_put (None ∷ ns) n = go (taken_to ns) refl (taken_put ns n)
+  where
+    few : (k : ℕ) → past_free k ≤ suc k
+    few zero = omega arith
+    few (suc k) = omega arith
+
+    first : taken_to ns ≡ 0 → (n : Option Note) → taken_to (n ∷ ns) ≤ 1
+    first e None = rw e (omega arith)
+    first e (Some m) = rw e (omega arith)
+
+    go : (k : ℕ) → taken_to ns ≡ k → taken_to (set ns (taken_to ns) n) ≤ suc (taken_to ns) → taken_to (set (None ∷ ns) (past_free k) n) ≤ suc (past_free k)
+    go zero e more = first e n
+    go (suc k) e more = rw (← e) (omega (arith, few (taken_to (set ns (taken_to ns) n)), more, e))
+taken_put (Some m ∷ ns) n = omega (arith, taken_put ns n)
 
 -- No note leaves the places as they are.
-pub put_none : (ns : List (Option Note)) → put None ns ≡ ns
-unfolding put
+pub put_none : (ns : List (Option Note)) → set ns (taken_to ns) None ≡ ns
+unfolding taken_to past_free
 put_none [] = refl
-put_none (None ∷ ns) = refl
+put_none (None ∷ ns) = go (taken_to ns) refl (put_none ns)
+  where
+    go : (k : ℕ) → taken_to ns ≡ k → set ns (taken_to ns) None ≡ ns → set (None ∷ ns) (past_free k) None ≡ None ∷ ns
+    go zero e same = refl
+    go (suc k) e same = rw (← e, same) refl
 put_none (Some m ∷ ns) = ap (λ (l : List (Option Note)). Some m ∷ l) (put_none ns)
 
--- Taken places, and free ones behind them.
-abbrev line_of : List Note → ℕ → List (Option Note)
-line_of taken free = map Some taken ++ replicate free None
+-- The places that a loop over them has counted are all of them.
+pub put_behind : (ns : List (Option Note)) (n : Option Note) (i end : ℕ) → length ns ≤ i → end ≡ taken_to (take i ns) → set ns end n ≡ set ns (taken_to ns) n
+put_behind ns n i end all e = rw (e, take_all i ns all)
 
+pub put_full : (ns : List (Option Note)) (n : Option Note) (i end : ℕ) → length ns ≤ i → end ≡ taken_to (take i ns) → length ns ≤ end → set ns (taken_to ns) n ≡ ns
+put_full ns n i end all e full = sym (put_behind ns n i end all e) ∙ set_past ns end n full
+
+-- A new box is empty.
 noted_free : (free : ℕ) → noted (replicate free None) ≡ []
 unfolding noted sent_of
 noted_free zero = refl
 noted_free (suc free) = noted_free free
 
-put_more : (n : Note) (taken : List Note) (free : ℕ) → put (Some n) (line_of taken (suc free)) ≡ line_of (taken ++ (n ∷ [])) free
-unfolding put
-put_more n [] free = refl
-put_more n (m ∷ taken) free = ap (λ (l : List (Option Note)). Some m ∷ l) (put_more n taken free)
+taken_free : (free : ℕ) → taken_to (replicate free None) ≡ 0
+unfolding taken_to past_free
+taken_free zero = refl
+taken_free (suc free) = rw (taken_free free) refl
 
-noted_line : (taken : List Note) (free : ℕ) → noted (line_of taken free) ≡ noted (map Some taken)
-noted_line taken free = rw (noted_append (map Some taken) (replicate free None), noted_free free, append-nil (noted (map Some taken)))
+pub packets_none : packets_in no_notes ≡ []
+unfolding packets_in
+packets_none = noted_free paddle_count
+
+-- A note put into a box that is not full adds its packets behind those before it.
+pub packets_more : (box : Outbox) (n : Option Note) → length box.notes ≡ paddle_count → taken_to box.notes < paddle_count
+    → packets_in (boxed box n) ≡ packets_in box ++ sent_of n
+unfolding boxed packets_in
+packets_more box n whole room = noted_put box.notes n (omega arith)
+
+-- It takes one place more at most, and has as many.
+pub more_count : (box : Outbox) (n : Option Note) → taken_to (boxed box n).notes ≤ suc (taken_to box.notes)
+unfolding boxed
+more_count box n = taken_put box.notes n
+
+pub more_length : (box : Outbox) (n : Option Note) → length (boxed box n).notes ≡ length box.notes
+unfolding boxed
+more_length box n = length-set box.notes (taken_to box.notes) n
 
 -- For a loop over the paddles: a box with these packets, that has taken one note at most from each of the first i of them.
 pub record Holds (i : ℕ) (packets : List (List ℕ)) (box : Outbox) : Type 0 where
-  pub taken : List Note
-  pub free : ℕ
-  pub places : box.notes ≡ line_of taken free
-  pub whole : length taken + free ≡ paddle_count
-  pub few : length taken ≤ i
+  pub whole : length box.notes ≡ paddle_count
+  pub few : taken_to box.notes ≤ i
   pub inside : packets_in box ≡ packets
 
 pub holds_none : (box : Outbox) → box ≡ no_notes → Holds 0 [] box
-unfolding packets_in
-holds_none box e = rw e record { taken = []; free = paddle_count; places = refl; whole = refl; few = omega arith; inside = noted_free paddle_count }
+holds_none box e = rw e record { whole = refl; few = rw (taken_free paddle_count) (omega arith); inside = packets_none }
 
 pub holds_more : (i : ℕ) (packets : List (List ℕ)) (box box' : Outbox) (n : Option Note) → Holds i packets box → i < paddle_count → box' ≡ boxed box n
     → Holds (i + 1) (packets ++ sent_of n) box'
-unfolding boxed packets_in sent_of
-holds_more i packets box box' None h room e =
-    rw (e, append-nil packets)
+holds_more i packets box box' n h room e =
+    rw e
     record {
-      taken = h.taken;
-      free = h.free;
-      places = put_none box.notes ∙ h.places;
-      whole = h.whole;
-      few = omega (arith, h.few);
-      inside = ap noted (put_none box.notes) ∙ h.inside;
+      whole = more_length box n ∙ h.whole;
+      few = omega (arith, more_count box n, h.few);
+      inside = packets_more box n h.whole (omega (arith, h.few)) ∙ rw h.inside;
     }
-holds_more i packets box box' (Some n) h room e = go h.free refl
-  where
-    go : (free : ℕ) → h.free ≡ free → Holds (i + 1) (packets ++ sent_of (Some n)) box'
-    go zero none = absurd (omega (arith, h.whole, h.few))
-    go (suc free) some =
-        let line : box.notes ≡ line_of h.taken (suc free) = h.places ∙ rw some in
-        let next : box'.notes ≡ line_of (h.taken ++ (n ∷ [])) free = rw e (ap (put (Some n)) line ∙ put_more n h.taken free) in
-        record {
-          taken = h.taken ++ (n ∷ []);
-          free = free;
-          places = next;
-          whole = omega (arith, h.whole, length-append h.taken (n ∷ []));
-          few = omega (arith, h.few, length-append h.taken (n ∷ []));
-          inside =
-              ap noted next ∙ noted_line (h.taken ++ (n ∷ [])) free
-              ∙ rw (map-append, noted_more (map Some h.taken) (Some n))
-              (ap (λ (l : List (List ℕ)). l ++ sent_of (Some n)) (sym (noted_line h.taken (suc free)) ∙ ap noted (sym line) ∙ h.inside));
-        }
 
 -- Where the code stands when it has laid these packets, those of its first i notes.
 pub record Underway (packets : List (List ℕ)) (before : List ℕ) (i count : ℕ) (lengths after : List ℕ) : Type 0 where

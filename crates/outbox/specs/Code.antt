@@ -1,5 +1,5 @@
 -- What the code and the proofs are cut by: no promise under the roof needs a definition of this file.
-use Rattle.std.specs.Prelude.{◌≡◌, List, [], ◌∷◌, ◌++◌, ℕ, ◌*◌, eqb, length, take, drop, set, replicate, if◌then◌else◌, Option, Some, None}
+use Rattle.std.specs.Prelude.{◌≡◌, List, [], ◌∷◌, ◌++◌, ℕ, zero, suc, ◌*◌, eqb, length, take, drop, set, replicate, if◌then◌else◌, Option, Some, None}
 use Rattle.post.specs.declared.Note.{Note}
 use Rattle.post.specs.Post.{placed_one}
 use Rattle.outbox.specs.Outbox.{placed, lengths_in, tally}
@@ -39,15 +39,20 @@ packets_in box = noted box.notes
 abbrev pub no_notes : Outbox
 no_notes = record { notes = replicate paddle_count None }
 
--- One note more, in the first free place; where there is none, it is left out.
-unfoldable pub put : Option Note → List (Option Note) → List (Option Note)
-put n [] = []
-put n (None ∷ rest) = n ∷ rest
-put n (Some m ∷ rest) = Some m ∷ put n rest
+-- A free place counts where one behind it is taken.
+unfoldable pub past_free : ℕ → ℕ
+past_free zero = 0
+past_free (suc behind) = suc (suc behind)
 
--- A box with one note more.
+-- How many places there are up to the last that is taken.
+unfoldable pub taken_to : List (Option Note) → ℕ
+taken_to [] = 0
+taken_to (None ∷ rest) = past_free (taken_to rest)
+taken_to (Some n ∷ rest) = suc (taken_to rest)
+
+-- A box with one note more, behind those that are there; a full box stays as it is.
 unfoldable pub boxed : Outbox → Option Note → Outbox
-boxed box n = record { notes = put n box.notes }
+boxed box n = record { notes = set box.notes (taken_to box.notes) n }
 
 -- What laying packets into a buffer promises: the count with the lengths, and every byte.
 pub record Sends (packets : List (List ℕ)) (before : List ℕ) (sent : Sent) (after : List ℕ) : Type 0 where

@@ -62,17 +62,20 @@ impl Outbox {
         }
     }
 
-    // One note more, if there is one. A full box stays as it is.
-    // Stays as it is: the library's `position` was tried for the first free place, and takes some 40 instructions more to a note.
-    #[tactic(auto, using(crate::proofs::Laying::free_here, crate::proofs::Laying::free_later, crate::proofs::Laying::put_full), unfolding(crate::specs::Code::boxed))]
+    // One note more, if there is one, behind those that are there. A full box stays as it is.
+    // Stays as it is: the library's `position` was tried, and takes some 40 instructions more to a note.
+    #[tactic(auto, using(crate::proofs::Laying::taken_here, crate::proofs::Laying::taken_before, crate::proofs::Laying::put_behind, crate::proofs::Laying::put_full), unfolding(crate::specs::Code::boxed, crate::specs::Code::taken_to))]
     pub fn with(mut self, note: Option<Note>) -> Outbox
         ensures { result ≡ boxed self note }
     {
+        let mut end = 0;
         for i in 0..PADDLES {
-            if self.notes[i].is_none() {
-                self.notes[i] = note;
-                return self;
+            if self.notes[i].is_some() {
+                end = i + 1;
             }
+        }
+        if end < PADDLES {
+            self.notes[end] = note;
         }
         self
     }

@@ -2,7 +2,7 @@
 use Rattle.std.specs.Prelude.{Option, Some, None}
 use mathlib.Core.Path.{◌≡◌, refl, sym, ap, subst, ◌∙◌}
 use mathlib.Core.Bool.{true, true≢false}
-use mathlib.Core.List.{List, [], ◌∷◌, ◌++◌, map, append-nil}
+use mathlib.Core.List.{List, [], ◌∷◌, ◌++◌, map, append_assoc, append-nil}
 use native.Mathlib.Omega.{arith}
 use Prim.Native.Nat.{ℕ, zero, suc, ◌+◌, ◌<◌, ◌≤◌}
 use native.Mathlib.Numerals.{add-one}
@@ -32,11 +32,11 @@ use Rattle.herald.specs.Herald.{announced, command_number, gesture_message, gest
 use Rattle.post.specs.Post.{bytes_of, enveloped}
 use Rattle.post.specs.declared.Note.{Note}
 use Rattle.outbox.specs.declared.Outbox.{Outbox}
-use Rattle.outbox.specs.Code.{boxed, no_notes, packets_in}
+use Rattle.outbox.specs.Code.{boxed, packets_in}
 use Rattle.post.specs.Code.{sent_of}
 use Rattle.herald.specs.Code.{note_of}
 use Rattle.herald.proofs.Announcing.{note_sent}
-use Rattle.outbox.proofs.Laying.{Holds, holds_more, holds_none, put_none}
+use Rattle.outbox.proofs.Laying.{Holds, holds_more, put_none}
 use Rattle.turns.specs.Turns.{Moment, moment, after, turned, turns}
 use Rattle.turns.specs.Code.{turns_by, Stands, Turned, TakesTurn}
 use Rattle.turns.specs.declared.After.{After}
@@ -111,6 +111,18 @@ turned_joined : (i : ℕ) (g : Option Gesture) (m : Moment) → turned i g m ≡
 unfolding turned after
 turned_joined i g m = rw followed_nothing
 
+pub turns_joined : (i : ℕ) (gs : List (Option Gesture)) (m : Moment) → turns_by i gs m ≡ joined m (turns_by i gs (anew m))
+unfolding turns_by turned after
+turns_joined i [] m = rw (append-nil m.sent, nothing_followed m.change)
+turns_joined i (g ∷ gs) m =
+    let now = turned i g m in
+    let alone = turned i g (anew m) in
+    let rest = turns_by (i + 1) gs (anew now) in
+    let mine = change_of (acted m.registers i g m.core).write [] in
+    turns_joined (i + 1) gs now
+    ∙ rw (append_assoc m.sent alone.sent rest.sent, followed_followed m.change mine rest.change, ← followed_nothing mine)
+    (ap (joined m) (sym (turns_joined (i + 1) gs alone)))
+
 -- None completed is no gesture, and sends nothing.
 pub nothing_done_lem : (g : Option Gesture) → is_none g ≡ true → g ≡ None
 nothing_done_lem None h = refl
@@ -175,9 +187,9 @@ pub record Turning (m : Moment) (began : Password) (i : ℕ) (now : AfterAll) (a
   pub holds : Holds i m.sent now.outbox
   pub password : now.password ≡ changed m.change began
 
-pub turning_begins : (c : Core) (all : List ℕ) (w : Password) (box : Outbox) → box ≡ no_notes → Turning (turns_by 0 [] (moment all c [] nothing)) w 0 (record { core = c; password = w; outbox = box }) all
+pub turning_begins : (c : Core) (all : List ℕ) (w : Password) (box : Outbox) → Holds 0 [] box → Turning (turns_by 0 [] (moment all c [] nothing)) w 0 (record { core = c; password = w; outbox = box }) all
 unfolding turns_by changed became
-turning_begins c all w box e = record { core = refl; registers = refl; holds = holds_none box e; password = refl }
+turning_begins c all w box h = record { core = refl; registers = refl; holds = h; password = refl }
 
 pub turning_again :
     (gs : List (Option Gesture)) (m : Moment) (began : Password) (i : ℕ) (now : AfterAll) (all : List ℕ) (next : AfterAll) (all' : List ℕ)

@@ -1,7 +1,6 @@
-use Rattle.std.specs.Prelude.{◌≡◌, ◌≤◌}
-use Rattle.std.specs.List.{position_or_len}
-use Rattle.std.specs.Option.{is_none}
+use Rattle.std.specs.Prelude.{◌≡◌, take}
+use Rattle.outbox.specs.Code.{taken_to}
 use Rattle.outbox.proofs.Outbox.with.Given as goal
 
 abbrev pub invariant-loop-i : goal.invariant-loop-i
-invariant-loop-i l = (l.self ≡ l.initial.self) × (l.i ≤ position_or_len is_none l.self.notes)
+invariant-loop-i l = (l.self ≡ l.initial.self) × (l.end ≡ taken_to (take l.i l.self.notes))
