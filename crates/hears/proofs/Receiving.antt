@@ -36,8 +36,8 @@ use Rattle.state.specs.Code.{CoreKept, LampKept, Sized}
 use Rattle.state.proofs.Laws.{only_lamp}
 use Rattle.panel.proofs.Laws.{paddles_same}
 use Rattle.obey.specs.Obey.{hue_of}
-use Rattle.verdict.specs.Code.{seen_by, seen_of, verdict_of, verdict_on}
-use Rattle.obey.specs.Code.{Obeys, Ready, effect_of, hue_by, reply_of}
+use Rattle.verdict.specs.Code.{seen_by, seen_of, verdict_of, verdict_on, verdict_or}
+use Rattle.obey.specs.Code.{Obeys, Ready, effect_of, effect_on, hue_by, reply_of, reply_on, seen_on}
 use Rattle.obey.proofs.Laws.{hue_told}
 use Rattle.switch.specs.Switch.{Plain, Shown, answer_with, event, receive, switch_of}
 use Rattle.switch.specs.Events.{garbled, job_of_bytes, job_of_deed, job_of_frame, job_of_guess, job_of_order, job_of_read, job_of_work, outcome_of, plain_after, refused}
@@ -46,16 +46,16 @@ use Rattle.switch.specs.Code.{told}
 use Rattle.answers.specs.declared.Answer.{Answer}
 use Rattle.switch.proofs.Laws.{leaves_all, leaves_shown, says, unchanged}
 
--- A guess is granted, as it is, or denied by whether it matches.
-guess_granted : (w guess : Password) (o : Order) → verdict_on w guess ≡ Ok o → (matches w guess ≡ true) × (order.Guess guess ≡ o)
+-- A guess is granted or denied by whether it matches.
+guess_granted : (w guess : Password) → ((d : Denied) → verdict_on w guess denied.Password ≡ Err d → ⊥) → matches w guess ≡ true
 unfolding verdict_on
-guess_granted w guess o = go (matches w guess)
+guess_granted w guess = go (matches w guess)
   where
-    go : (b : Bool) → cond b (Ok (order.Guess guess)) (Err denied.Password) ≡ Ok o → (b ≡ true) × (order.Guess guess ≡ o)
-    go true h = (refl, cc)
-    go false h = cc
+    go : (b : Bool) → ((d : Denied) → cond b (Ok (order.Guess guess)) (Err denied.Password) ≡ Err d → ⊥) → b ≡ true
+    go true h = refl
+    go false h = absurd (h denied.Password refl)
 
-guess_denied : (w guess : Password) (d : Denied) → verdict_on w guess ≡ Err d → (matches w guess ≡ false) × (denied.Password ≡ d)
+guess_denied : (w guess : Password) (d : Denied) → verdict_on w guess denied.Password ≡ Err d → (matches w guess ≡ false) × (denied.Password ≡ d)
 unfolding verdict_on
 guess_denied w guess d = go (matches w guess)
   where
@@ -73,28 +73,25 @@ seen_outcome first count source p w Normal e = rw e
 seen_outcome first count source p w Setup e = rw e
 seen_outcome first count source p w Factory e = rw e
 
--- What a granted order comes to.
-abbrev granted : Order → ℕ → List ℕ → Plain → Password → Answered Plain Shown
-granted o source values p w =
-    let e = effect_of p.registers o p.core in
-    answered (outcome_of e values source (reply_of o) p (seen_of o p.core.mode w)) (changed (change_of e.write values) w)
+-- What a verdict comes to that grants its order.
+abbrev granted : Result Order Denied → ℕ → List ℕ → Plain → Password → Answered Plain Shown
+granted v source values p w =
+    let e = effect_on p.registers v p.core in
+    answered (outcome_of e values source (reply_on v) p (seen_on v p.core.mode w)) (changed (change_of e.write values) w)
 
 pub says_granted :
-    (j : Result Order Denied) (o : Order) (source : ℕ) (values : List ℕ) (p : Plain) (w : Password) → verdict_of j w ≡ Ok o
-    → settled w (job_of_order j source values p) ≡ granted o source values p w
-unfolding verdict_of job_of_order job_of_guess job_of_work settled effect_of reply_of seen_of outcome_of plain_after opened unwritten applied change_of change_at changed became replied reply_message enveloped
-says_granted (Err d) o source values p w h = cc
-says_granted (Ok (order.Guess guess)) o source values p w h =
-    let g = guess_granted w guess o h in
-    rw (← g.1, g.0)
-says_granted (Ok (order.Read first count)) o source values p w h =
-    let same : order.Read first count ≡ o = cc in rw (← same) (seen_outcome first count source p w p.core.mode refl)
-says_granted (Ok (order.Work work)) o source values p w h = let same : order.Work work ≡ o = cc in rw (← same)
+    (j : Result Order Denied) (source : ℕ) (values : List ℕ) (p : Plain) (w : Password) → ((d : Denied) → verdict_of j w ≡ Err d → ⊥)
+    → settled w (job_of_order j source values p) ≡ granted (verdict_of j w) source values p w
+unfolding verdict_of verdict_or verdict_on job_of_order job_of_guess job_of_work settled effect_on effect_of reply_on reply_of seen_on seen_of outcome_of plain_after opened unwritten applied change_of change_at changed became replied reply_message enveloped
+says_granted (Err d) source values p w h = absurd (h d refl)
+says_granted (Ok (order.Guess guess)) source values p w h = rw (guess_granted w guess h)
+says_granted (Ok (order.Read first count)) source values p w h = seen_outcome first count source p w p.core.mode refl
+says_granted (Ok (order.Work work)) source values p w h = refl
 
 pub says_denied :
     (j : Result Order Denied) (d : Denied) (source : ℕ) (values : List ℕ) (p : Plain) (w : Password) → verdict_of j w ≡ Err d
     → settled w (job_of_order j source values p) ≡ told (number_of_denied d) [] p w
-unfolding verdict_of job_of_order job_of_guess settled refused changed became
+unfolding verdict_of verdict_or job_of_order job_of_guess settled refused changed became
 says_denied (Err e) d source values p w h = let same : e ≡ d = cc in rw same
 says_denied (Ok (order.Guess guess)) d source values p w h =
     let s = guess_denied w guess d h in
@@ -166,18 +163,19 @@ module _ (bytes c n l all out : List ℕ) (enough : room ≤ length out) (f : Re
         none_sent shows
 
     pub granted_responds :
-        (v : Result Order Denied) (w : Password) (o : Order) (values : List ℕ) (size : ℕ) (hue : Colour) (c₁ n₁ all₁ out₁ c₂ n₂ : List ℕ) (sent : Sent) (r : Answer)
-        → w ≡ password_of n → v ≡ verdict_of j w → v ≡ Ok o → values ≡ drop 2 message → Sized c n
-        → Obeys (effect_of all o (core_of c n)) values h.source (reply_of o) (seen_of o (mode_in n) (password_of n)) c n all out size c₁ n₁ all₁ out₁
+        (v : Result Order Denied) (w : Password) (values : List ℕ) (size : ℕ) (hue : Colour) (c₁ n₁ all₁ out₁ c₂ n₂ : List ℕ) (sent : Sent) (r : Answer)
+        → w ≡ password_of n → v ≡ verdict_of j w → ((d : Denied) → v ≡ Err d → ⊥) → values ≡ drop 2 message → Sized c n
+        → Obeys (effect_on all v (core_of c n)) values h.source (reply_on v) (seen_on v (mode_in n) (password_of n)) c n all out size c₁ n₁ all₁ out₁
         → hue ≡ hue_by size → LampKept (signal_set hue (lamp_of c₁ n₁)) c₁ n₁ c₂ n₂ → sent ≡ lone size → r ≡ answer_with 0 sent all₁ (core_of c₂ n₂)
         → Responds (receive bytes) c n l all out r c₂ n₂ l all₁ out₁
     unfolding outcome_of plain_after core_of signalled
-    granted_responds v w o values size hue c₁ n₁ all₁ out₁ c₂ n₂ sent r own judged-so goes behind sized obeys hued lamp counted shows =
+    granted_responds v w values size hue c₁ n₁ all₁ out₁ c₂ n₂ sent r own judged-so goes behind sized obeys hued lamp counted shows =
         let w₀ = password_of n in
         let k₀ = core_of c n in
-        let e = effect_of all o k₀ in
-        let rep = reply_of o in
-        let seen-so = seen_of o (mode_in n) w₀ in
+        let e = effect_on all v k₀ in
+        let rep = reply_on v in
+        let seen-so = seen_on v (mode_in n) w₀ in
+        let given : verdict_of j w₀ ≡ v = ap (verdict_of j) (sym own) ∙ sym judged-so in
         let source = h.source in
         let packets = replied all₁ seen-so source rep (percent_of e.core.dimmer.level) in
         let fits : place ≤ length out = omega arith in
@@ -190,6 +188,7 @@ module _ (bytes c n l all out : List ℕ) (enough : room ≤ length out) (f : Re
         leaves_shown _ 0 packets k w' (paddles_of l) c n l out sent r c₂ n₂ l all₁ out₁ sized
         (ordered
         ∙ ap (λ (x : List ℕ). settled w₀ (job_of_order j source x (switch_of c n l all).plain)) (sym behind)
-        ∙ says_granted j o source values (switch_of c n l all).plain w₀ (ap (verdict_of j) (sym own) ∙ sym judged-so ∙ goes)
+        ∙ says_granted j source values (switch_of c n l all).plain w₀ (λ d e. goes d (sym given ∙ e))
+        ∙ ap (λ (x : Result Order Denied). granted x source values (switch_of c n l all).plain w₀) given
         ∙ rw (← obeys.registers))
         sends.counted shows kept (sym (paddles_same l)) sends.bytes

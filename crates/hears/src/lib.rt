@@ -34,12 +34,12 @@ pub fn receive(
     };
     let message = packet::message(frame, packet);
     let judged = judge::judge(all, mode_in(numbers), header, message);
-    let order = match verdict_of(judged, password_of(numbers)) {
-        Ok(order) => order,
-        Err(denied) => return shown(denied.number(), Sent::none(), counters, numbers, all),
-    };
+    let verdict = verdict_of(judged, password_of(numbers));
+    if let Err(denied) = verdict {
+        return shown(denied.number(), Sent::none(), counters, numbers, all);
+    }
     let length = obey(
-        order,
+        verdict,
         header.source,
         values(message),
         counters,

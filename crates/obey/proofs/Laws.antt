@@ -1,5 +1,5 @@
 -- What each kind of order keeps, so that the signal alone is left to it, and how its reply is told by its length.
-use Rattle.std.specs.Prelude.{◌≡◌, ℕ, ◌≤◌, List, [], ◌∷◌, length, Option, None}
+use Rattle.std.specs.Prelude.{◌≡◌, ℕ, ◌≤◌, List, [], ◌∷◌, length, Option, None, Result, Err}
 use mathlib.Core.Path.{refl, sym, ap, ◌∙◌}
 use native.Mathlib.Omega.{arith}
 use borrow.Author.Tests.{eq-eqb, ne_eqb}
@@ -40,7 +40,7 @@ use Rattle.state.proofs.Laws.{hue_same, lamp_of_password, lamp_of_mode, lamp_of_
 use Rattle.state.proofs.Laws.{only_lamp, dimmer_lamp, mode_lamp, password_lamp, timers_over, timers_back, sized_mode}
 use Rattle.obey.specs.Obey.{reply_to, hue_of}
 use Rattle.verdict.specs.Code.{seen_by, seen_of}
-use Rattle.obey.specs.Code.{effect_of, reply_of, hue_by, Ready, Obeys, Sets}
+use Rattle.obey.specs.Code.{effect_of, reply_of, hue_by, Ready, Obeys, Sets, effect_on, reply_on, seen_on}
 
 -- Nothing is kept: ready as it was read.
 pub ready_same : (c n : List ℕ) → Ready (core_of c n) (password_of n) c n c n
@@ -160,6 +160,13 @@ module _ (asked : Work) (values : List ℕ) (source : ℕ) (c n all out : List �
   unfolding performed unwritten reply_to core_of applied change_of change_at changed became
   drives d c' n' told kept =
       rw told record { ready = ready_driven _ c n c' n' kept; registers = refl; laid = silent _ _ _ _ out }
+
+-- One that is refused leaves all as it is.
+pub refuses : {E : Type 0} (asked : Result Order E) (e : E) (values : List ℕ) (source : ℕ) (c n all out : List ℕ)
+    → asked ≡ Err e
+    → Obeys (effect_on all asked (core_of c n)) values source (reply_on asked) (seen_on asked (mode_in n) (password_of n)) c n all out 0 c n all out
+unfolding effect_on unwritten reply_on seen_on applied change_of change_at changed became
+refuses asked e values source c n all out told = rw told record { ready = ready_same c n; registers = refl; laid = silent _ _ _ _ out }
 
 -- Each order.
 module _ (asked : Order) (values : List ℕ) (source : ℕ) (c n all out : List ℕ) where

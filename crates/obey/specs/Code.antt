@@ -1,10 +1,11 @@
 -- What the code and the proofs are cut by: no promise under the roof needs a definition of this file.
-use Rattle.std.specs.Prelude.{◌≡◌, ℕ, List, ◌==◌, if◌then◌else◌, Option}
+use Rattle.std.specs.Prelude.{◌≡◌, ℕ, List, ◌==◌, if◌then◌else◌, Option, None, Result, Ok, Err}
 use Rattle.units.specs.Units.{percent_of}
 use Rattle.lamp.specs.declared.Colour.{Colour}
 use Rattle.lamp.specs.declared.Colour.TheVariants.{Green, Red}
 use Rattle.lamp.specs.declared.Lamp.{Lamp}
 use Rattle.vault.specs.Job.{changed}
+use Rattle.vault.specs.declared.Mode.{Mode}
 use Rattle.vault.specs.declared.Password.{Password}
 use Rattle.acts.specs.Core.{core, opened, unwritten}
 use Rattle.orders.specs.Orders.{performed}
@@ -20,6 +21,7 @@ use Rattle.judge.specs.declared.Order.{Order}
 use Rattle.judge.specs.declared.Order.TheVariants as order
 use Rattle.state.specs.State.{lamp_of, password_of}
 use Rattle.state.specs.Keeping.{kept_counters, kept_numbers, kept_timers, kept_hue, kept_password}
+use Rattle.verdict.specs.Code.{seen_of}
 use Rattle.obey.specs.Obey.{reply_to}
 
 -- What a granted order does.
@@ -33,6 +35,19 @@ unfoldable pub reply_of : Order → Reply
 reply_of (order.Guess guess) = reply.Silence
 reply_of (order.Read first count) = reply.Registers first count
 reply_of (order.Work o) = reply_to o
+
+-- An order that is refused, however it is said what for, does nothing, and is answered with nothing.
+unfoldable pub effect_on : {E : Type 0} → List ℕ → Result Order E → Core → Effect
+effect_on all (Ok o) c = effect_of all o c
+effect_on all (Err e) c = unwritten c
+
+unfoldable pub reply_on : {E : Type 0} → Result Order E → Reply
+reply_on (Ok o) = reply_of o
+reply_on (Err e) = reply.Silence
+
+unfoldable pub seen_on : {E : Type 0} → Result Order E → Mode → Password → Option Password
+seen_on (Ok o) mode w = seen_of o mode w
+seen_on (Err e) mode w = None
 
 -- The signal of a packet that is answered 0, by the length of the reply.
 unfoldable pub hue_by : ℕ → Colour

@@ -9,7 +9,7 @@ ghost use Rattle.state.specs.State.{core_of, dimmer_of, lamp_of, mode_in, passwo
 ghost use Rattle.state.specs.Code.{DimmerKept, LampKept};
 ghost use Rattle.obey.specs.Obey.{reply_to};
 ghost use Rattle.verdict.specs.Code.{seen_of};
-ghost use Rattle.obey.specs.Code.{effect_of, reply_of, hue_by, Ready, Obeys, Sets};
+ghost use Rattle.obey.specs.Code.{effect_of, effect_on, reply_of, reply_on, seen_on, hue_by, Ready, Obeys, Sets};
 
 use judge::{Drive, Order, Work};
 use lamp::Colour;
@@ -26,8 +26,27 @@ use vault::Mode;
 use verdict::seen_by;
 use writes::{Write, apply};
 
-// What a granted order does, and the length of the reply, 0 for none, as C is handed it. `values`: what a Set Registers brings.
-pub fn obey(
+// What a granted order does, and the length of the reply, 0 for none, as C is handed it. `values`: what a Set Registers brings. One that
+// is refused does nothing, whatever it is refused for and however that is said.
+#[tactic(auto, unfolding(crate::specs::Code::effect_on, crate::specs::Code::reply_on, crate::specs::Code::seen_on))]
+pub fn obey<E: Copy>(
+    order: Result<Order, E>,
+    source: u8,
+    values: &[u8],
+    counters: &mut [u16; COUNTERS],
+    numbers: &mut [u8; NUMBERS],
+    all: &mut [u8; 256],
+    out: &mut [u8],
+) -> u8
+    ensures { Obeys (effect_on all.old order (core_of counters.old numbers.old)) values.now source (reply_on order) (seen_on order (mode_in numbers.old) (password_of numbers.old)) counters.old numbers.old all.old out.old result counters.new numbers.new all.new out.new }
+{
+    match order {
+        Ok(order) => follow(order, source, values, counters, numbers, all, out),
+        Err(_) => 0,
+    }
+}
+
+fn follow(
     order: Order,
     source: u8,
     values: &[u8],

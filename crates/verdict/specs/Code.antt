@@ -9,16 +9,20 @@ use Rattle.judge.specs.declared.Denied.TheVariants as denied
 use Rattle.judge.specs.declared.Order.{Order}
 use Rattle.judge.specs.declared.Order.TheVariants as order
 
--- 01, Answer numbers, row 14: a wrong guess.
-unfoldable pub verdict_on : Password → Password → Result Order Denied
-verdict_on w guess = if matches w guess then Ok (order.Guess guess) else Err denied.Password
+-- A guess: a wrong one is refused, and that is how it is said.
+unfoldable pub verdict_on : {E : Type 0} → Password → Password → E → Result Order E
+verdict_on w guess wrong = if matches w guess then Ok (order.Guess guess) else Err wrong
 
--- Whether an order is refused: for what it was denied for already, or for a wrong guess.
+-- Whether an order is refused: for what it was refused for already, however that is said, or for a wrong guess.
+unfoldable pub verdict_or : {E : Type 0} → Result Order E → E → Password → Result Order E
+verdict_or (Err e) wrong w = Err e
+verdict_or (Ok (order.Guess guess)) wrong w = verdict_on w guess wrong
+verdict_or (Ok (order.Read first count)) wrong w = Ok (order.Read first count)
+verdict_or (Ok (order.Work o)) wrong w = Ok (order.Work o)
+
+-- 01, Answer numbers, row 14: a wrong guess is denied for its password.
 unfoldable pub verdict_of : Result Order Denied → Password → Result Order Denied
-verdict_of (Err d) w = Err d
-verdict_of (Ok (order.Guess guess)) w = verdict_on w guess
-verdict_of (Ok (order.Read first count)) w = Ok (order.Read first count)
-verdict_of (Ok (order.Work o)) w = Ok (order.Work o)
+verdict_of judged w = verdict_or judged denied.Password w
 
 -- 01, Commands, 9: the password is seen in Setup alone.
 unfoldable pub seen_by : Mode → Password → Option Password

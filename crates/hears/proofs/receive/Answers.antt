@@ -17,11 +17,11 @@ returns-in_default c = λ l.
 pub returns-in-Err : goal.returns-in-Err
 returns-in-Err c = λ l.
     denied_responds _ _ _ l _ _ (omega (arith, c.if-out-lt-ROOM.false)) _ c.read-frame.ensures _ _ _ _ c.in-Ok.is c.message-message.ensures c.mode_in.ensures c.judge-judged.ensures
-    _ _ _ c.number-in-Err.result c.none-in-Err.result c.shown-in-Err.result c.password_of.ensures c.verdict_of.ensures c.in-Err.is c.number-in-Err.ensures
+    _ _ _ c.number-in-Err.result c.none-in-Err.result c.shown-in-Err.result c.password_of.ensures c.verdict_of-verdict.ensures c.in-Err.is c.number-in-Err.ensures
     c.none-in-Err.ensures c.shown-in-Err.ensures
 
 pub returns : goal.returns
 returns c = λ l.
     granted_responds _ _ _ l _ _ (omega (arith, c.if-out-lt-ROOM.false)) _ c.read-frame.ensures _ _ _ _ c.in-Ok.is c.message-message.ensures c.mode_in.ensures c.judge-judged.ensures
-    _ _ _ _ c.obey-length.result _ _ _ _ _ _ _ _ c.shown-2.result c.password_of.ensures c.verdict_of.ensures c.in-Ok-verdict_of.is c.values.ensures (record { counted = search rules; numbered = search rules })
+    _ _ _ c.obey-length.result _ _ _ _ _ _ _ _ c.shown-2.result c.password_of.ensures c.verdict_of-verdict.ensures c.in_default-verdict.not-Err c.values.ensures (record { counted = search rules; numbered = search rules })
     c.obey-length.ensures c.hue_of.ensures c.signal-2.ensures c.one.ensures c.shown-2.ensures
