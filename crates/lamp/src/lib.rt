@@ -125,7 +125,7 @@ impl Lamp {
     }
 
     // The step that the output shows.
-    #[tactic(auto, unfolding(crate::specs::Lamp::output))]
+    #[tactic(auto, unfolding(crate::specs::Lamp::output, units::specs::Units::opposite))]
     pub fn output(self, level: Step) -> Step
         ensures { result ≡ output self level }
     {

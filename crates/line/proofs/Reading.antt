@@ -1,5 +1,5 @@
 -- The laws of reading.
-use Prim.Native.Nat.{ℕ, suc, ◌+◌, ◌*◌, ◌/◌, ◌≤◌, ◌<◌}
+use Prim.Native.Nat.{ℕ, zero, suc, ◌+◌, ◌*◌, ◌/◌, ◌≤◌, ◌<◌}
 use native.Mathlib.Nat.{zero-add, add-zero}
 use native.Mathlib.Numerals.{add-one}
 use native.Mathlib.Omega.{arith}
@@ -62,10 +62,15 @@ read_other limit before text i h other =
     rw (drop-cons text i 0, is_digit_is 10 (get_or text i 0) (omega arith), le-ltb _ _ other)
 
 -- Further digits make no value smaller.
-value_grows : (before : ℕ) (text : List ℕ) → before ≤ value before text
+pub value_grows : (before : ℕ) (text : List ℕ) → before ≤ value before text
 unfolding value
 value_grows before [] = omega arith
 value_grows before (byte ∷ rest) = omega (arith, value_grows (10 * before + worth byte) rest)
+
+-- So a value above the limit never comes back to it.
+pub value_past : (limit before : ℕ) (text : List ℕ) → limit < before → within limit (value before text) ≡ None
+unfolding within
+value_past limit before text h = rw (lt-ltb limit (value before text) (omega (arith, value_grows before text)))
 
 -- A value above the limit never comes back to it.
 pub read_past : (limit before : ℕ) (text : List ℕ) → limit < before → read_on limit before text ≡ None
@@ -86,6 +91,18 @@ unfolding hex_of
 hex_length [] = refl
 hex_length (high ∷ []) = refl
 hex_length (high ∷ low ∷ rest) = omega (arith, hex_length rest)
+
+-- Byte i is made of digits 2i and 2i + 1.
+pub hex_at : (text : List ℕ) (i : ℕ) → i < length text / 2
+    → get_or (hex_of text) i 0 ≡ 16 * worth (get_or text (2 * i) 0) + worth (get_or text (2 * i + 1) 0)
+unfolding hex_of
+hex_at [] i h = absurd (omega arith)
+hex_at (high ∷ []) i h = absurd (omega arith)
+hex_at (high ∷ low ∷ rest) zero h = refl
+hex_at (high ∷ low ∷ rest) (suc i) h =
+    let even : 2 * suc i ≡ suc (suc (2 * i)) = omega arith in
+    let odd : 2 * suc i + 1 ≡ suc (suc (2 * i + 1)) = omega arith in
+    rw (odd, even) (hex_at rest i (omega arith))
 
 -- The bytes with what is left laid from a place on.
 unfoldable pub laid_on : ℕ → List ℕ → List ℕ → List ℕ

@@ -2,6 +2,7 @@
 use Rattle.std.specs.Prelude.{◌≡◌, ℕ, ◌+◌, ◌<◌, Bool, true, false, List, [], ◌∷◌, Option, length, get_or, drop, Some, None}
 use mathlib.Core.Path.{refl, sym, ap, subst, ◌∙◌}
 use native.Mathlib.Numerals.{add-one}
+use lib.Dec.{eqb}
 use lib.Seq.{drop-cons}
 use borrow.Author.Tests.{ne_eqb}
 use Rattle.timers.specs.Timers.{less}
@@ -13,7 +14,10 @@ use Rattle.dimmer.specs.Dimmer.{ticked}
 use Rattle.dimmer.specs.declared.Dimmer.{Dimmer}
 use Rattle.paddle.specs.declared.Gesture.{Gesture}
 use Rattle.paddle.specs.declared.Gesture.TheVariants.{Taps}
-use Rattle.writes.specs.Writes.{applied, change_of}
+use Rattle.vault.specs.declared.Mode.TheVariants.{Normal}
+use Rattle.words.proofs.Laws.{both}
+use Rattle.writes.specs.Writes.{applied, change_of, change_at}
+use Rattle.writes.specs.declared.Write.{Write}
 use Rattle.acts.specs.Core.{aged, entering, saved}
 use Rattle.gestures.specs.Gestures.{leads, writes}
 use Rattle.acts.specs.declared.Core.{Core}
@@ -99,6 +103,11 @@ shifts_all taps c n all mode to c₁ n₁ l₀ l₁ l₂ c₂ n₂ n₃ all₁ c
 pub keeps_password : (n : List ℕ) → kept_password (changed nothing (password_of n)) n ≡ n
 unfolding changed became
 keeps_password n = password_same n
+
+-- What taps write in Normal leaves it alone.
+pub normal_keeps : (taps : ℕ) → change_of (writes Normal (Some (Taps taps))) [] ≡ nothing
+unfolding writes change_of change_at
+normal_keeps taps = both (λ (w : Write). change_of w [] ≡ nothing) (eqb taps 5) refl refl
 
 -- The loop over the gestures: the next one stands in front of the others.
 pub beside_next :

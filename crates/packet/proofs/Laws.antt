@@ -85,6 +85,11 @@ pub refusal_number : (f : Result Header Flaw) → (number_of_frame f ≡ 0 → �
 refusal_number (Ok h) n = absurd (n refl)
 refusal_number (Err flaw) n = flaw_number flaw
 
+-- What is not read is a refusal.
+pub not_read : (f : Result Header Flaw) → ((h : Header) → f ≡ Ok h → ⊥) → number_of_frame f ≡ 0 → ⊥
+not_read (Ok h) k z = absurd (k h refl)
+not_read (Err flaw) k z = omega (arith, (flaw_number flaw).0)
+
 -- A packet that is read passes every check, and the header is the one in its bytes.
 pub sound : (p : List ℕ) (h : Header) → read_of p ≡ Ok h → Sound p h
 sound p h = (exactly.answer (Ok h) p).0

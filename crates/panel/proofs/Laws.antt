@@ -83,7 +83,7 @@ paddle_apart i j p l other h k =
       bytes_apart i p l (gap_index j) (λ e. omega arith) (λ e. omega arith) (λ e. omega arith) (λ e. other (omega arith)),
     )
 
-from_apart : (i n j : ℕ) (p : Paddle) (l : List ℕ) → j < i → i + n ≤ paddle_count → paddles_from i n (kept_paddle j p l) ≡ paddles_from i n l
+pub from_apart : (i n j : ℕ) (p : Paddle) (l : List ℕ) → j < i → i + n ≤ paddle_count → paddles_from i n (kept_paddle j p l) ≡ paddles_from i n l
 unfolding paddles_from
 from_apart i zero j p l low fits = refl
 from_apart i (suc n) j p l low fits =
@@ -389,7 +389,7 @@ ticks_at i l g l₁ l' low is used ran =
 pub gesture_none : (i : ℕ) (l : List ℕ) → loud_at i l ≡ false → None ≡ gesture (paddle_from i l)
 gesture_none i l quiet' = sym (nothing _ (quiet_at i l quiet'))
 
-gesture_loud :
+pub gesture_loud :
     (i : ℕ) (l : List ℕ) (up : Bool) → loud_at i l ≡ true → eqb (get_or l (contacts_index i) 0 % 4) 0 ≡ up
     → (if up then Some (Taps (get_or l (taps_index i) 0)) else Some Hold) ≡ gesture (paddle_from i l)
 unfolding loud_at paddle_from down ends completed closing gesture

@@ -51,6 +51,13 @@ one_turned (Some (Taps k) ∷ gs) i taps h =
 one_turned (Some Hold ∷ gs) i taps h = absurd (none-some taps h)
 one_turned (Some Release ∷ gs) i taps h = absurd (none-some taps h)
 
+-- No taps move no mode.
+pub none_shifts : (mode : Mode) → shifts mode 0 ≡ false
+unfolding shifts
+none_shifts Normal = refl
+none_shifts Setup = refl
+none_shifts Factory = refl
+
 -- Taps that move the mode enter it, write what they write, and send nothing.
 either : (a b : Bool) {X : Type 0} → (a ≡ true → X) → (b ≡ true → X) → (a || b) ≡ true → X
 either true b left right h = left refl
