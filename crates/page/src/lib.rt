@@ -142,8 +142,8 @@ pub fn behind(bytes: &[u8], n: usize) -> &[u8]
 // A page of its own: its bytes, and the place where the next one goes.
 #[derive(Clone, Copy)]
 pub struct Page<const N: usize> {
-    bytes: [u8; N],
-    at: usize,
+    pub bytes: [u8; N],
+    pub at: usize,
 }
 
 // Clauses see the page of the definitions, which has any length.
