@@ -20,7 +20,8 @@ use Rattle.page.specs.Page.{Page, puts}
 use Rattle.ledger.specs.Writing.{started}
 use Rattle.line.specs.declared.Line.TheVariants.{Press, Release, Packet, Restart}
 use Rattle.stage.specs.declared.Event.TheVariants as happens
-use Rattle.stage.specs.Stage.{Scene, scene, Plays, told, letter_of}
+use Rattle.stage.specs.declared.Desk.{Desk}
+use Rattle.stage.specs.Stage.{Scene, scene, scene_of, Plays, told, letter_of}
 use Rattle.desk.specs.Playing.{cleared, begun, played}
 
 -- A start is answered 0 where the image is whole, and there alone.
@@ -49,21 +50,20 @@ chosen true x y = refl
 chosen false x y = refl
 
 -- A start: what is there after it, and what is written.
-pub begins : {before s : Scene} {image c n l all : List ℕ} {answer : Answer} {page page' : Page}
-    → before ≡ s
-    → Starts (λ a. a) image before.arrays.counters before.arrays.numbers before.arrays.paddles before.arrays.registers answer c n l all
+pub begins : (image : List ℕ) (desk : Desk) (c n l all c' n' l' all' : List ℕ) (answer : Answer) (page page' : Page)
+    → Starts (λ a. a) image c n l all answer c' n' l' all'
     → page' ≡ puts (started answer) page
-    → Plays (begun image s) (scene (eqb answer.number 0) (arrays c n l all) before.room before.buffer) page page'
+    → (buffer : List ℕ)
+    → Plays (begun image (scene_of desk c n l all buffer)) page (record { there = eqb answer.number 0; room = desk.room }) c' n' l' all' buffer page'
 unfolding begun
-begins {before} {s} {image} {c} {n} {l} {all} {answer} before_is start wrote =
+begins image desk c n l all c' n' l' all' answer page page' start wrote buffer =
     let there : eqb answer.number 0 ≡ whole image = rw start.answered (started_there image) in
-    let left : arrays c n l all ≡ (if whole image then kept_in cleared (started_from image) else before.arrays) =
-    (λ i. arrays (start.counted i) (start.numbered i) (start.moved i) (start.registers i)) ∙ chosen (whole image) (kept_in cleared (started_from image)) before.arrays in
-    rw (← before_is)
-    (record {
-      after = λ i. scene (there i) (left i) before.room before.buffer;
+    let left : arrays c' n' l' all' ≡ (if whole image then kept_in cleared (started_from image) else arrays c n l all) =
+    (λ i. arrays (start.counted i) (start.numbered i) (start.moved i) (start.registers i)) ∙ chosen (whole image) (kept_in cleared (started_from image)) (arrays c n l all) in
+    record {
+      after = λ i. scene (there i) (left i) desk.room buffer;
       written = wrote ∙ rw start.answered;
-    })
+    }
 
 -- A line that is an event does what its event does.
 pub record TellsItsEvent (number : ℕ) (bytes : List ℕ) (s : Scene) : Type 0 where

@@ -46,5 +46,13 @@ played number (Some Dump) bytes s = done s (shown_of s.there s.arrays.registers 
 
 -- How many ticks a line asks of the switch, where there is one.
 unfoldable pub ticks_of : Option Line → Bool → ℕ
+ticks_of None there = 0
+ticks_of (Some Pass) there = 0
+ticks_of (Some (Image n)) there = 0
+ticks_of (Some (Room n)) there = 0
+ticks_of (Some (Press n)) there = 0
+ticks_of (Some (Release n)) there = 0
 ticks_of (Some (Ticks n)) there = if there then n else 0
-ticks_of _ there = 0
+ticks_of (Some (Packet n)) there = 0
+ticks_of (Some Restart) there = 0
+ticks_of (Some Dump) there = 0

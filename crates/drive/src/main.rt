@@ -4,11 +4,10 @@
 use line::read;
 use model::{PADDLES, PLACE};
 use page::{Page, front};
-use stage::Desk;
+use stage::Table;
 use std::env::{Env, FillError};
 use std::fs;
 use std::io::{Cursor, Error, ErrorKind, Read, Write};
-use std::mem::swap;
 use std::process::ExitCode;
 use std::rt::Files;
 
@@ -40,10 +39,10 @@ const WHY: usize = 320;
 // ignored from the start, and the write fails.
 const UNHEARD: u8 = 141;
 
-// A script under way: the desk, the page that goes out next, and the line that is being collected.
+// A script under way: the table, the page that goes out next, and the line that is being collected.
 #[derive(Drop)]
 struct Script {
-    desk: Desk<BUFFER>,
+    table: Table<BUFFER>,
     page: Page<BLOCK>,
     // Why no more goes out, where that is so.
     lost: Option<ErrorKind>,
@@ -123,7 +122,7 @@ fn block<'a>(
 impl Script {
     fn new() -> Self {
         Script {
-            desk: Desk::empty(),
+            table: Table::empty(),
             page: Page::new(),
             lost: None,
             line: Page::new(),
@@ -155,8 +154,8 @@ impl Script {
         if said.is_none() {
             self.unread = self.unread.saturating_add(1);
         }
-        desk::play(said, self.lines, &bytes, &mut self.desk, &mut self.page);
-        self.ticks(rt, desk::ticks(said, self.desk.there));
+        desk::play_on(said, self.lines, &bytes, &mut self.table, &mut self.page);
+        self.ticks(rt, desk::ticks(said, self.table.desk.there));
         self.print_full(rt);
     }
 
@@ -168,9 +167,8 @@ impl Script {
         };
         let mut row = Page::new();
         for _ in 0..count {
-            row.rewind();
-            self.desk.tick(&mut row);
-            self.join(rt, &mut run, &mut row);
+            self.table.tick(&mut row);
+            self.join(rt, &mut run, &row);
             if self.lost.is_some() {
                 break;
             }
@@ -179,14 +177,14 @@ impl Script {
     }
 
     // A tick joins the run where its row is the same. Else the run is written, and the tick begins another.
-    fn join(&mut self, rt: &(impl Print + Eprint), run: &mut Run, row: &mut Page<ROW>) {
+    fn join(&mut self, rt: &(impl Print + Eprint), run: &mut Run, row: &Page<ROW>) {
         if row.written() == run.row.written() {
             run.ticks = run.ticks.saturating_add(1);
             return;
         }
         self.close(run);
         self.print_full(rt);
-        swap(&mut run.row, row);
+        run.row = *row;
         run.ticks = 1;
     }
 

@@ -12,17 +12,23 @@ use Rattle.std.specs.Prelude.{Option, None, Some}
 use Rattle.std.proofs.lemmas.Bool.Decides.{nat_tests}
 use Rattle.words.proofs.Laws.{both, cases, one_outcome}
 use Rattle.line.specs.declared.Line.{Line}
-use Rattle.line.specs.declared.Line.TheVariants.{Image, Room, Packet}
+use Rattle.line.specs.declared.Line.TheVariants.{Pass, Image, Room, Press, Release, Ticks, Packet, Restart, Dump}
 use Rattle.line.specs.Reading.{bare, blank, digit_of, digits, value, within, number_of, hex, hex_of, dash, image_of, packet_of, limit_of, numbered, counted, told, alone, said, line_of, laid, Reads}
 use Rattle.line.specs.ReadingPromises.{Held, Sizes, OneOutcome, lowered, CaseAlike, LeadingZero, Lines}
 use Rattle.line.proofs.Reading.{hex_length, hex_reads, dash_none, number_within}
 
 -- A line's sizes are right: as many bytes as its hex has, room for them, and each size within its range.
 abbrev Sized : ℕ → List ℕ → Option Line → Type 0
+Sized room argument None = Unit {0}
+Sized room argument (Some Pass) = Unit {0}
 Sized room argument (Some (Image n)) = (n ≤ room) × (length (hex_of argument) ≡ n)
 Sized room argument (Some (Room n)) = n ≤ 4096
+Sized room argument (Some (Press n)) = Unit {0}
+Sized room argument (Some (Release n)) = Unit {0}
+Sized room argument (Some (Ticks n)) = Unit {0}
 Sized room argument (Some (Packet n)) = (n ≤ 256) × ((n ≤ room) × (length (hex_of argument) ≡ n))
-Sized room argument _ = Unit {0}
+Sized room argument (Some Restart) = Unit {0}
+Sized room argument (Some Dump) = Unit {0}
 
 module _ (room : ℕ) (argument : List ℕ) where
   -- An image's.

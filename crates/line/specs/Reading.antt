@@ -135,9 +135,16 @@ line_of room text = if ltb 2048 (length text) then None else said room (bare tex
 
 -- The bytes that a line brings: those of its argument's hex, or none.
 abbrev pub bytes_of : Option Line → List ℕ → List ℕ
+bytes_of None argument = []
+bytes_of (Some Pass) argument = []
 bytes_of (Some (Image n)) argument = hex_of argument
+bytes_of (Some (Room n)) argument = []
+bytes_of (Some (Press n)) argument = []
+bytes_of (Some (Release n)) argument = []
+bytes_of (Some (Ticks n)) argument = []
 bytes_of (Some (Packet n)) argument = hex_of argument
-bytes_of _ argument = []
+bytes_of (Some Restart) argument = []
+bytes_of (Some Dump) argument = []
 
 -- Bytes laid in front of the lent ones, the rest as they were.
 abbrev pub laid : List ℕ → List ℕ → List ℕ

@@ -11,6 +11,7 @@ use Rattle.switch.specs.Respond.{respond}
 use Rattle.answers.specs.declared.Answer.{Answer}
 use Rattle.stage.specs.declared.Event.{Event}
 use Rattle.stage.specs.declared.Event.TheVariants as happens
+use Rattle.stage.specs.declared.Desk.{Desk}
 use Rattle.page.specs.Page.{Page, puts, none}
 use Rattle.ledger.specs.Writing.{fill, answered}
 
@@ -24,6 +25,10 @@ pub record Scene : Type 0 where
 abbrev pub scene : Bool → Arrays → ℕ → List ℕ → Scene
 scene there arrays room buffer = record { there = there; arrays = arrays; room = room; buffer = buffer }
 
+-- As the code holds it: the arrays and the buffer are lent, the rest goes by value.
+abbrev pub scene_of : Desk → List ℕ → List ℕ → List ℕ → List ℕ → List ℕ → Scene
+scene_of desk counters numbers paddles all buffer = scene desk.there (arrays counters numbers paddles all) desk.room buffer
+
 -- What a line does: the scene after it, and the text that is written.
 pub record Done : Type 0 where
   pub after : Scene
@@ -32,9 +37,13 @@ pub record Done : Type 0 where
 abbrev pub done : Scene → List ℕ → Done
 done after text = record { after = after; text = text }
 
--- The start of a script: no switch, arrays of zeros, and of a buffer of n bytes just the room that an event asks for.
-abbrev pub empty_desk : ℕ → Scene
-empty_desk n = scene false (arrays (replicate counter_count 0) (replicate number_count 0) (replicate byte_count 0) (replicate size 0)) room (replicate n 0)
+-- The start of a script: no switch, and a buffer with just the room that an event asks for.
+abbrev pub empty_desk : Desk
+empty_desk = record { there = false; room = room }
+
+-- The same with arrays of zeros, and a buffer of n bytes.
+abbrev pub empty_table : ℕ → Scene
+empty_table n = scene_of empty_desk (replicate counter_count 0) (replicate number_count 0) (replicate byte_count 0) (replicate size 0) (replicate n 0)
 
 -- Before every event each lent byte is made the same.
 abbrev pub filled : List ℕ → List ℕ
@@ -54,7 +63,12 @@ told letter deed s = if not s.there then done s (none letter) else happened (ans
 
 -- What every line promises: whether there is a switch, every counter, number, paddle's byte and register, the buffer's every byte, and the page
 -- are those of its meaning.
-pub record Plays (meant : Done) (scene' : Scene) (page page' : Page) : Type 0 where
+pub record Plays (meant : Done) (page : Page) (desk : Desk) (counters numbers paddles all buffer : List ℕ) (page' : Page) : Type 0 where
+  pub after : scene_of desk counters numbers paddles all buffer ≡ meant.after
+  pub written : page' ≡ puts meant.text page
+
+-- The same where the parts are lent as one.
+pub record PlaysOn (meant : Done) (page : Page) (scene' : Scene) (page' : Page) : Type 0 where
   pub after : scene' ≡ meant.after
   pub written : page' ≡ puts meant.text page
 

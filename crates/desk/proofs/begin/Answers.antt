@@ -3,4 +3,4 @@ use Rattle.desk.proofs.Playing.{begins}
 use Rattle.desk.proofs.begin.Goals as goal
 
 pub returns : goal.returns
-returns g c = begins c.desk.view_is c.start-answer.ensures c.started.ensures
+returns c = begins _ c.args.desk _ _ _ _ _ _ _ _ _ _ _ c.start-answer.ensures c.started-at.ensures

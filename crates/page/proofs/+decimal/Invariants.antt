@@ -1,5 +1,5 @@
 -- The measure is the number: a tenth of it is less.
-use Rattle.page.proofs.Page.+decimal.Given as goal
+use Rattle.page.proofs.+decimal.Given as goal
 
 abbrev pub decreases-decimal : goal.decreases-decimal
-decreases-decimal g l = l.n
+decreases-decimal l = l.n
