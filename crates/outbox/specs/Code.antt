@@ -50,7 +50,7 @@ taken_to [] = 0
 taken_to (None ∷ rest) = past_free (taken_to rest)
 taken_to (Some n ∷ rest) = suc (taken_to rest)
 
--- A box with one note more, behind those that are there; a full box stays as it is.
+-- A box with one note more, behind those that are there; a box whose last place is taken stays as it is.
 unfoldable pub boxed : Outbox → Option Note → Outbox
 boxed box n = record { notes = set box.notes (taken_to box.notes) n }
 

@@ -62,8 +62,8 @@ impl Outbox {
         }
     }
 
-    // One note more, if there is one, behind those that are there. A full box stays as it is.
-    // Stays as it is: the library's `position` was tried, and takes some 40 instructions more to a note.
+    // One note more, if there is one, behind those that are there. A box whose last place is taken stays as it is.
+    // Stays as it is: the library's `position` was tried for the first free place, and took some 40 instructions more to a note.
     #[tactic(auto, using(crate::proofs::Laying::taken_here, crate::proofs::Laying::taken_before, crate::proofs::Laying::put_behind, crate::proofs::Laying::put_full), unfolding(crate::specs::Code::boxed, crate::specs::Code::taken_to))]
     pub fn with(mut self, note: Option<Note>) -> Outbox
         ensures { result ≡ boxed self note }
