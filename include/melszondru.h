@@ -13,7 +13,7 @@
  * call (examples/loop.c does). Every call ends, and waits for nothing.
  *
  * From the C library the archive needs memcpy and memmove and nothing else (`nm -u`), and nothing is to be set up before the first
- * call. The deepest stack that was measured is 324 bytes (docs/PERFORMANCE.md has each function's; measured, not proved).
+ * call. The deepest stack that was measured is 292 bytes (docs/PERFORMANCE.md has each function's; measured, not proved).
  *
  * It is built for x86-64 Linux: the toolchain has no other target today.
  */
