@@ -167,7 +167,7 @@ impl Script {
         };
         let mut row = Page::new();
         for _ in 0..count {
-            self.table.tick(&mut row);
+            self.table.tick_at_front(&mut row);
             self.join(rt, &mut run, &row);
             if self.lost.is_some() {
                 break;

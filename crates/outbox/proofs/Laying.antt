@@ -6,10 +6,12 @@ use Prim.Native.Nat.{ℕ, zero, suc, ◌+◌, ◌-◌, ◌*◌, ◌≤◌, ◌<�
 use native.Mathlib.Numerals.{add-one}
 use native.Mathlib.Omega.{arith}
 use lib.Dec.{eqb}
-use lib.ListN.{length, get_or, take, drop, set, replicate, length-append, length-take, length-drop, drop_of_length-le}
+use lib.ListN.{length, get_or, take, drop, set, replicate, length-append, length-replicate, length-take, length-drop, drop_of_length-le}
 use lib.Seq.{take-suc, take_all}
 use Rattle.std.specs.Prelude.{Option, Some, None}
-use Rattle.std.proofs.lemmas.List.{length-set, set_past}
+use Rattle.std.specs.Option.{is_none}
+use Rattle.std.specs.List.{position_or_len}
+use Rattle.std.proofs.lemmas.List.{length-map, length-set, set_past}
 use Rattle.words.proofs.Laws.{both, one_outcome}
 use Rattle.units.specs.declared.Percent.{Percent}
 use Rattle.model.specs.Model.{paddle_count, place}
@@ -169,6 +171,16 @@ put_behind ns n i end all e = rw (e, take_all i ns all)
 pub put_full : (ns : List (Option Note)) (n : Option Note) (i end : ℕ) → length ns ≤ i → end ≡ taken_to (take i ns) → length ns ≤ end → set ns (taken_to ns) n ≡ ns
 put_full ns n i end all e full = sym (put_behind ns n i end all e) ∙ set_past ns end n full
 
+-- Where all places are taken the note is left out.
+every_taken : (ns : List (Option Note)) → length ns ≤ position_or_len is_none ns → taken_to ns ≡ length ns
+unfolding taken_to
+every_taken [] h = refl
+every_taken (None ∷ ns) h = absurd (omega arith)
+every_taken (Some m ∷ ns) h = ap suc (every_taken ns (omega arith))
+
+pub full_stays : (n : Option Note) (ns : List (Option Note)) → length ns ≤ position_or_len is_none ns → set ns (taken_to ns) n ≡ ns
+full_stays n ns h = set_past ns (taken_to ns) n (rw (every_taken ns h) (omega arith))
+
 -- A new box is empty.
 noted_free : (free : ℕ) → noted (replicate free None) ≡ []
 unfolding noted sent_of
@@ -217,6 +229,73 @@ holds_more i packets box box' n h room e =
       few = omega (arith, more_count box n, h.few);
       inside = packets_more box n h.whole (omega (arith, h.few)) ∙ rw h.inside;
     }
+
+-- Taken places, and free ones behind them.
+abbrev line_of : List Note → ℕ → List (Option Note)
+line_of taken free = map Some taken ++ replicate free None
+
+line_taken : (taken : List Note) (free : ℕ) → taken_to (line_of taken free) ≡ length taken
+unfolding taken_to
+line_taken [] free = taken_free free
+line_taken (m ∷ taken) free = ap suc (line_taken taken free)
+
+line_length : (taken : List Note) (free : ℕ) → length (line_of taken free) ≡ length taken + free
+line_length taken free = rw (length-append (map Some taken) (replicate free None), length-map, length-replicate)
+
+line_more : (n : Note) (taken : List Note) (free : ℕ) → set (line_of taken (suc free)) (length taken) (Some n) ≡ line_of (taken ++ (n ∷ [])) free
+line_more n [] free = refl
+line_more n (m ∷ taken) free = ap (λ (l : List (Option Note)). Some m ∷ l) (line_more n taken free)
+
+-- A box that holds these packets and has no gap: the places behind those that are taken are free.
+pub record InLine (i : ℕ) (packets : List (List ℕ)) (box : Outbox) : Type 0 where
+  pub taken : List Note
+  pub free : ℕ
+  pub places : box.notes ≡ line_of taken free
+  pub whole : length taken + free ≡ paddle_count
+  pub few : length taken ≤ i
+  pub inside : packets_in box ≡ packets
+
+pub in_line_none : (box : Outbox) → box ≡ no_notes → InLine 0 [] box
+in_line_none box e = rw e record { taken = []; free = paddle_count; places = refl; whole = refl; few = omega arith; inside = packets_none }
+
+pub in_line_holds : (i : ℕ) (packets : List (List ℕ)) (box : Outbox) → InLine i packets box → Holds i packets box
+in_line_holds i packets box l =
+    record {
+      whole = ap length l.places ∙ line_length l.taken l.free ∙ l.whole;
+      few = rw (l.places, line_taken l.taken l.free) l.few;
+      inside = l.inside;
+    }
+
+pub in_line_more : (i : ℕ) (packets : List (List ℕ)) (box box' : Outbox) (n : Option Note) → InLine i packets box → i < paddle_count → box' ≡ boxed box n
+    → InLine (i + 1) (packets ++ sent_of n) box'
+unfolding boxed
+in_line_more i packets box box' None l room e =
+    let holds = holds_more i packets box box' None (in_line_holds i packets box l) room e in
+    record {
+      taken = l.taken;
+      free = l.free;
+      places = rw e (put_none box.notes ∙ l.places);
+      whole = l.whole;
+      few = omega (arith, l.few);
+      inside = holds.inside;
+    }
+in_line_more i packets box box' (Some n) l room e = go l.free refl
+  where
+    go : (free : ℕ) → l.free ≡ free → InLine (i + 1) (packets ++ sent_of (Some n)) box'
+    go zero none = absurd (omega (arith, l.whole, l.few))
+    go (suc free) some =
+        let line : box.notes ≡ line_of l.taken (suc free) = l.places ∙ rw some in
+        let next : set box.notes (taken_to box.notes) (Some n) ≡ line_of (l.taken ++ (n ∷ [])) free =
+        rw (line, line_taken l.taken (suc free)) (line_more n l.taken free) in
+        let holds = holds_more i packets box box' (Some n) (in_line_holds i packets box l) room e in
+        record {
+          taken = l.taken ++ (n ∷ []);
+          free = free;
+          places = rw e next;
+          whole = omega (arith, l.whole, length-append l.taken (n ∷ []));
+          few = omega (arith, l.few, length-append l.taken (n ∷ []));
+          inside = holds.inside;
+        }
 
 -- Where the code stands when it has laid these packets, those of its first i notes.
 pub record Underway (packets : List (List ℕ)) (before : List ℕ) (i count : ℕ) (lengths after : List ℕ) : Type 0 where

@@ -185,8 +185,25 @@ impl<const N: usize> Table<N> {
         self.desk = self.desk.with_room(room);
     }
 
-    // One tick, and its row at the front of the page.
+    // One tick, and its row behind what stands on the page.
     pub fn tick<const P: usize>(&mut self, page: &mut Page<P>)
+        ensures { PlaysOn (happened row tick self.old) page.old self.new page.new }
+    {
+        let answer = happen(
+            Event::Tick,
+            self.desk,
+            &mut self.counters,
+            &mut self.numbers,
+            &mut self.paddles,
+            &mut self.all,
+            &mut self.buffer,
+        );
+        let lent = front(&self.buffer, self.desk.room);
+        page.at = ledger::row(&mut page.bytes, page.at, answer, lent);
+    }
+
+    // The same, with the row at the front of the page, over what stands there.
+    pub fn tick_at_front<const P: usize>(&mut self, page: &mut Page<P>)
         ensures { PlaysOn (happened row tick self.old) (page_of page.old.bytes 0) self.new page.new }
     {
         let turn = tick(
@@ -219,5 +236,28 @@ impl<const N: usize> Table<N> {
         );
         self.desk = turn.desk;
         page.at = turn.at;
+    }
+}
+
+#[cfg(test)]
+mod tests {
+    use super::*;
+
+    // The second tick is refused: one byte of the buffer is missing.
+    #[test]
+    fn rows_of_a_table(rt: HostRuntime) {
+        let mut table = Table::<ROOM>::empty();
+        let mut page = Page::<80>::new();
+        page.text(b"t ");
+        table.tick(&mut page);
+        page.put(b',');
+        table.lend(ROOM - 1);
+        table.tick(&mut page);
+        assert_eq!(rt;
+            page.written(),
+            b"t 0 0 0 0 0 0 black normal -,2 0 0 0 0 0 black normal -".as_slice()
+        );
+        table.tick_at_front(&mut page);
+        assert_eq!(rt; page.written(), b"2 0 0 0 0 0 black normal -".as_slice());
     }
 }

@@ -32,11 +32,11 @@ use Rattle.herald.specs.Herald.{announced, command_number, gesture_message, gest
 use Rattle.post.specs.Post.{bytes_of, enveloped}
 use Rattle.post.specs.declared.Note.{Note}
 use Rattle.outbox.specs.declared.Outbox.{Outbox}
-use Rattle.outbox.specs.Code.{boxed, packets_in}
+use Rattle.outbox.specs.Code.{boxed, no_notes, packets_in}
 use Rattle.post.specs.Code.{sent_of}
 use Rattle.herald.specs.Code.{note_of}
 use Rattle.herald.proofs.Announcing.{note_sent}
-use Rattle.outbox.proofs.Laying.{Holds, holds_more, put_none}
+use Rattle.outbox.proofs.Laying.{Holds, holds_more, InLine, in_line_more, in_line_none, in_line_holds, put_none}
 use Rattle.turns.specs.Turns.{Moment, moment, after, turned, turns}
 use Rattle.turns.specs.Code.{turns_by, Stands, Turned, TakesTurn}
 use Rattle.turns.specs.declared.After.{After}
@@ -210,6 +210,28 @@ turning_again gs m began i now all next all' t inside room takes =
       holds = rw (← s.sent) (holds_more i before.sent now.outbox next.outbox n t.holds room takes.noted);
       password = s.password ∙ rw (t.password, changed_followed before.change one.change began);
     }
+
+-- So the code stands from turn to turn, with a box that has no gap.
+pub record TurningInLine (m : Moment) (began : Password) (i : ℕ) (now : AfterAll) (all : List ℕ) : Type 0 where
+  pub turning : Turning m began i now all
+  pub line : InLine i m.sent now.outbox
+
+pub in_line_begins : (c : Core) (all : List ℕ) (w : Password) (box : Outbox) → box ≡ no_notes → TurningInLine (turns_by 0 [] (moment all c [] nothing)) w 0 (record { core = c; password = w; outbox = box }) all
+unfolding turns_by
+in_line_begins c all w box e =
+    let line = in_line_none box e in
+    record { turning = turning_begins c all w box (in_line_holds 0 [] box line); line = line }
+
+pub in_line_again :
+    (gs : List (Option Gesture)) (m : Moment) (began : Password) (i : ℕ) (now : AfterAll) (all : List ℕ) (next : AfterAll) (all' : List ℕ)
+    → TurningInLine (turns_by 0 (take i gs) m) began i now all → i < length gs → i < paddle_count
+    → TakesTurn i (get_or gs i None) now all next all'
+    → TurningInLine (turns_by 0 (take (i + 1) gs) m) began (i + 1) next all'
+in_line_again gs m began i now all next all' t inside room takes =
+    let n = note_of all' now.core.mode i (get_or gs i None) (percent_of next.core.dimmer.level) in
+    let turning = turning_again gs m began i now all next all' t.turning inside room takes in
+    let line = in_line_more i (turns_by 0 (take i gs) m).sent now.outbox next.outbox n t.line room takes.noted in
+    record { turning = turning; line = record { taken = line.taken; free = line.free; places = line.places; whole = line.whole; few = line.few; inside = turning.holds.inside } }
 
 -- When all of them have had it, the code stands at the moment after them all.
 pub turning_ends :

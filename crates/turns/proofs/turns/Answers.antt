@@ -4,14 +4,13 @@ use lib.ListN.{length}
 use borrow.Author.Rules.{rules}
 use Rattle.model.specs.Model.{paddle_count}
 use Rattle.words.proofs.Laws.{length_of_mapped}
-use Rattle.outbox.proofs.Laying.{holds_none}
-use Rattle.turns.proofs.Laws.{turning_again, turning_begins}
+use Rattle.turns.proofs.Laws.{in_line_again, in_line_begins}
 use Rattle.turns.proofs.turns.Goals as goal
 
 pub loop-i-init : goal.loop-i-init
-loop-i-init c = turning_begins _ _ _ _ (holds_none _ c.none.ensures)
+loop-i-init c = in_line_begins _ _ _ _ c.none.ensures
 
 pub loop-i-preserved : goal.loop-i-preserved
 loop-i-preserved c =
     let all_there : length c.args.gestures ≡ paddle_count = search (rules, length_of_mapped) in
-    turning_again c.args.gestures _ _ _ _ _ _ _ c.loop-i.invariant (omega arith) (omega arith) c.next_turn-next.ensures
+    in_line_again c.args.gestures _ _ _ _ _ _ _ c.loop-i.invariant (omega arith) (omega arith) c.next_turn-next.ensures
