@@ -46,14 +46,22 @@ use Rattle.switch.specs.Code.{told}
 use Rattle.answers.specs.declared.Answer.{Answer}
 use Rattle.switch.proofs.Laws.{leaves_all, leaves_shown, says, unchanged}
 
--- A guess is granted or denied by whether it matches.
-guess_granted : (w guess : Password) → ((d : Denied) → verdict_on w guess denied.Password ≡ Err d → ⊥) → matches w guess ≡ true
+-- A guess is granted, as it is, or denied by whether it matches.
+guess_granted : (w guess : Password) (o : Order) → verdict_on w guess denied.Password ≡ Ok o → (matches w guess ≡ true) × (order.Guess guess ≡ o)
 unfolding verdict_on
-guess_granted w guess = go (matches w guess)
+guess_granted w guess o = go (matches w guess)
   where
-    go : (b : Bool) → ((d : Denied) → cond b (Ok (order.Guess guess)) (Err denied.Password) ≡ Err d → ⊥) → b ≡ true
-    go true h = refl
-    go false h = absurd (h denied.Password refl)
+    go : (b : Bool) → cond b (Ok (order.Guess guess)) (Err denied.Password) ≡ Ok o → (b ≡ true) × (order.Guess guess ≡ o)
+    go true h = (refl, cc)
+    go false h = cc
+
+-- One that is not denied matches.
+guess_matches : (w guess : Password) → ((d : Denied) → verdict_on w guess denied.Password ≡ Err d → ⊥) → matches w guess ≡ true
+guess_matches w guess h = go (verdict_on w guess denied.Password) refl
+  where
+    go : (v : Result Order Denied) → verdict_on w guess denied.Password ≡ v → matches w guess ≡ true
+    go (Ok o) e = (guess_granted w guess o e).0
+    go (Err d) e = absurd (h d e)
 
 guess_denied : (w guess : Password) (d : Denied) → verdict_on w guess denied.Password ≡ Err d → (matches w guess ≡ false) × (denied.Password ≡ d)
 unfolding verdict_on
@@ -84,7 +92,7 @@ pub says_granted :
     → settled w (job_of_order j source values p) ≡ granted (verdict_of j w) source values p w
 unfolding verdict_of verdict_or verdict_on job_of_order job_of_guess job_of_work settled effect_on effect_of reply_on reply_of seen_on seen_of outcome_of plain_after opened unwritten applied change_of change_at changed became replied reply_message enveloped
 says_granted (Err d) source values p w h = absurd (h d refl)
-says_granted (Ok (order.Guess guess)) source values p w h = rw (guess_granted w guess h)
+says_granted (Ok (order.Guess guess)) source values p w h = rw (guess_matches w guess h)
 says_granted (Ok (order.Read first count)) source values p w h = seen_outcome first count source p w p.core.mode refl
 says_granted (Ok (order.Work work)) source values p w h = refl
 
